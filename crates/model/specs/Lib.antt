@@ -1,0 +1,10 @@
+pub mod Term
+pub mod Rule
+pub mod Table
+pub mod Run
+pub mod Write
+pub mod Verify
+pub mod Check
+pub mod Sign
+pub mod Derive
+pub mod Drafts
