@@ -37,35 +37,35 @@ whole-is (some zero) e = refl
 whole-is (some (suc n)) e = true≢false e refl
 
 module _ (S : Signature) where
-  wants-left : (a b : Term) (n : ℕ) → wants S (a · b) ≡ some n → wants S a ≡ some (suc n)
+  pub wants-left : (a b : Term) (n : ℕ) → wants S (a · b) ≡ some n → wants S a ≡ some (suc n)
   unfolding wants
   wants-left a b n e = given-left (wants S a) (wants S b) n e
 
-  wants-right : (a b : Term) (n : ℕ) → wants S (a · b) ≡ some n → wants S b ≡ some 0
+  pub wants-right : (a b : Term) (n : ℕ) → wants S (a · b) ≡ some n → wants S b ≡ some 0
   unfolding wants
   wants-right a b n e = given-right (wants S a) (wants S b) n e
 
-  factWants-left : (a b : Term) (n : ℕ) → factWants S (a · b) ≡ some n → factWants S a ≡ some (suc n)
+  pub factWants-left : (a b : Term) (n : ℕ) → factWants S (a · b) ≡ some n → factWants S a ≡ some (suc n)
   unfolding factWants
   factWants-left a b n e = given-left (factWants S a) (wants S b) n e
 
-  factWants-right : (a b : Term) (n : ℕ) → factWants S (a · b) ≡ some n → wants S b ≡ some 0
+  pub factWants-right : (a b : Term) (n : ℕ) → factWants S (a · b) ≡ some n → wants S b ≡ some 0
   unfolding factWants
   factWants-right a b n e = given-right (factWants S a) (wants S b) n e
 
-  isTerm-wants : (t : Term) → isTerm S t ≡ true → wants S t ≡ some 0
+  pub isTerm-wants : (t : Term) → isTerm S t ≡ true → wants S t ≡ some 0
   unfolding isTerm
   isTerm-wants t e = whole-is (wants S t) e
 
-  wants-isTerm : (t : Term) → wants S t ≡ some 0 → isTerm S t ≡ true
+  pub wants-isTerm : (t : Term) → wants S t ≡ some 0 → isTerm S t ≡ true
   unfolding isTerm whole
   wants-isTerm t e = ap whole e
 
-  isFact-wants : (t : Term) → isFact S t ≡ true → factWants S t ≡ some 0
+  pub isFact-wants : (t : Term) → isFact S t ≡ true → factWants S t ≡ some 0
   unfolding isFact
   isFact-wants t e = whole-is (factWants S t) e
 
-  wf-concl : (r : Rule) → wellFormed S r ≡ true → isFact S (r .concl) ≡ true
+  pub wf-concl : (r : Rule) → wellFormed S r ≡ true → isFact S (r .concl) ≡ true
   unfolding wellFormed
   wf-concl r e = both-true (isFact S (r .concl)) (areFacts S (r .hyps)) e .0
 
