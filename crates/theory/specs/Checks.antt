@@ -195,11 +195,11 @@ firstBad-ok rs ss (s ∷ l) = go (goodStep rs ss s) (good-ok rs ss s) (firstBad-
     go true h k = later (firstBad rs (ss ++ (s ∷ [])) l) h k
 
 -- ---- the end
-abbrev EndsOk : Term → List Step → Bool → Type 0
+abbrev pub EndsOk : Term → List Step → Bool → Type 0
 EndsOk q ss true = Last q ss
 EndsOk q ss false = Last q ss → ⊥
 
-ends-ok : (q : Term) (ss : List Step) → EndsOk q ss (ends q ss)
+pub ends-ok : (q : Term) (ss : List Step) → EndsOk q ss (ends q ss)
 unfolding ends
 ends-ok q [] = λ w. nil≢snoc (w .0) (w .1) (w .2)
   where

@@ -22,3 +22,4 @@ pub mod Writes
 pub mod Answers
 pub mod Fuel
 pub mod Promises
+pub mod Formed

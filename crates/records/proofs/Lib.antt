@@ -1,0 +1,4 @@
+pub mod Laws
+pub mod SymbolSteps
+pub mod RuleSteps
+pub mod InputCases
