@@ -1,0 +1,14 @@
+pub mod Forest
+pub mod Closure
+pub mod Merge
+pub mod Read
+pub mod Inside
+pub mod Nodes
+pub mod Facts
+pub mod Code
+pub mod Look
+pub mod Solve
+pub mod Writer
+pub mod Whole
+pub mod Formed
+pub mod Final
