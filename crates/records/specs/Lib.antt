@@ -3,5 +3,7 @@ pub mod Symbols
 pub mod Rules
 pub mod Found
 pub mod Input
+pub mod Work
 pub mod TokenLaws
 pub mod RuleLaws
+pub mod WorkLaws

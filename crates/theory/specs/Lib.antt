@@ -23,3 +23,4 @@ pub mod Answers
 pub mod Fuel
 pub mod Promises
 pub mod Formed
+pub mod History

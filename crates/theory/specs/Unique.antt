@@ -16,6 +16,7 @@ use Rattle.theory.specs.Unify.{MguOk, Unifier}
 use Rattle.theory.specs.Implies.{same-ok, SameOk}
 use Rattle.theory.specs.Basics.{true≢false, no-confusion}
 use Rattle.theory.specs.Combine.{Has, has-cons, has-nil, InAll, inHead, inTail, unifier-of, distinct-has, map-sub-ext, in-varsAll, in-vars, vars-rest}
+use Rattle.model.specs.Write.{orElse, before, unifierAt, parents}
 use Rattle.model.specs.Rule.{Rule, normal, place, among, firsts, varsAll, varsOf, subRule, renumber, dropCopies, nth, without, left, right, resolvent, byUnifier, upon, combine}
 
 -- ---- names of variables through a renaming f with the inverse g on them
@@ -226,6 +227,12 @@ module _ (s s′ : ℕ → Term) (r : Rule) (h : InvT s s′ (r .concl ∷ r .hy
       ap renumber (rule-path (sub-ext s (λ x. var (f x)) (r .concl) (λ x i. renames x (inHead i))) (map-sub-ext s (λ x. var (f x)) (r .hyps) (λ x i. renames x (inTail i))))
       ∙ renumber-inv f g r inverse
 
+-- the values that go with renamed variables
+before-inv : (f g : ℕ → ℕ) (vs : List ℕ) (F : Term) (θ : ℕ → Term) (x : ℕ) → g (f x) ≡ x → Inv f g vs → before vs F θ x ≡ before (map f vs) F θ (f x)
+unfolding before
+before-inv f g vs F θ x q I =
+    ap₂ (λ (c : Bool) (n : ℕ). elim c as (λ _. Term) [ true ↦ θ (suc n) | false ↦ F ]) (sym (elem-inv f g x vs q I)) (sym (place-inv f g x vs q I))
+
 -- ---- the combination by any most general unifier
 -- a most general unifier, as a substitution
 unfoldable pub Mgu : Term → Term → (ℕ → Term) → Type 0
@@ -264,6 +271,51 @@ module _ (a b : Rule) (k : ℕ) (c : Term) (m : Bindings) (u : Unifier (a .concl
       ∙ renumber-variant μ ν (dropCopies (resolvent a b k m)) (there-back (b .concl), invT-firsts μ ν [] (map (apply m) (a .hyps ++ without (b .hyps) k)) (invT-apply (a .hyps ++ without (b .hyps) k)))
       )
 
+  -- ---- the values of parents
+  -- what is left of the two rules, and one term more
+  left-over : Rule
+  left-over = dropCopies (resolvent a b k m)
+
+  left-over-inv : InvT μ ν (left-over .concl ∷ left-over .hyps)
+  unfolding left-over resolvent dropCopies
+  left-over-inv = (there-back (b .concl), invT-firsts μ ν [] (map (apply m) (a .hyps ++ without (b .hyps) k)) (invT-apply (a .hyps ++ without (b .hyps) k)))
+
+  by-μ : dropCopies (subRule μ base) ≡ subRule μ left-over
+  unfolding left-over resolvent subRule base Mgu
+  by-μ =
+      ap dropCopies (rule-path (sym (u .general μ (w .0) (b .concl))) (map-general (a .hyps ++ without (b .hyps) k)))
+      ∙ dropCopies-inv μ ν (resolvent a b k m) (invT-apply (a .hyps ++ without (b .hyps) k))
+
+  vars-μ : varsOf (dropCopies (subRule μ base)) ≡ map (λ x. name (μ x)) (varsOf left-over)
+  unfolding subRule f g
+  vars-μ =
+      ap varsOf by-μ
+      ∙ ap varsOf (rule-path (sub-ext μ (λ x. var (name (μ x))) (left-over .concl) (λ x i. renames μ ν left-over left-over-inv x (inHead i)))
+      (map-sub-ext μ (λ x. var (name (μ x))) (left-over .hyps) (λ x i. renames μ ν left-over left-over-inv x (inTail i))))
+      ∙ vars-renamed (λ x. name (μ x)) (λ y. name (ν y)) left-over (inverse μ ν left-over left-over-inv)
+
+  -- A term's value by the one unifier is its value by the other.
+  values-same : (F : Term) (θ : ℕ → Term) (v : Term) → sub (before (varsOf left-over) F θ) (apply m v) ≡ sub (before (varsOf (dropCopies (subRule μ base))) F θ) (sub μ v)
+  values-same F θ v =
+      sub-ext (before (varsOf left-over) F θ) (λ x. sub (before (varsOf (dropCopies (subRule μ base))) F θ) (μ x)) (apply m v) point
+      ∙ sym (sub-sub (before (varsOf (dropCopies (subRule μ base))) F θ) μ (apply m v))
+      ∙ ap (sub (before (varsOf (dropCopies (subRule μ base))) F θ)) (unfold Mgu in u .general μ (w .0) v)
+    where
+      one : Rule
+      one = record { concl = apply m v; hyps = [] }
+
+      back : InvT μ ν (apply m v ∷ [])
+      back = (there-back v, tt)
+
+      point : (x : ℕ) → In x (apply m v) → before (varsOf left-over) F θ x ≡ sub (before (varsOf (dropCopies (subRule μ base))) F θ) (μ x)
+      point x i =
+          let e : μ x ≡ var (name (μ x)) = unfold f in renames μ ν one back x (inHead i) in
+          let q : name (ν (name (μ x))) ≡ x = unfold f g in undoes μ ν one back x (inHead i) in
+          let I : Inv (λ y. name (μ y)) (λ y. name (ν y)) (varsOf left-over) = unfold f g varsOf allVars in inv-distinct (λ y. name (μ y)) (λ y. name (ν y)) [] (allVars left-over) (inverse μ ν left-over left-over-inv) in
+          before-inv (λ y. name (μ y)) (λ y. name (ν y)) (varsOf left-over) F θ x q I
+          ∙ ap (λ (l : List ℕ). before l F θ (name (μ x))) (sym vars-μ)
+          ∙ sym (ap (sub (before (varsOf (dropCopies (subRule μ base))) F θ)) e ∙ (unfold sub in refl))
+
 -- the two rules that are combined, made different, without the hypothesis combined upon
 unfoldable pub parts : Rule → Rule → ℕ → Rule
 parts r r′ k = record { concl = right r′ .concl; hyps = left r .hyps ++ without (right r′ .hyps) k }
@@ -278,3 +330,17 @@ combine-any r r′ k c μ e w = ap (upon (left r) (right r′) k) e ∙ go (unif
     go : (o : Option Bindings) → MguOk (left r .concl) c o → byUnifier (left r) (right r′) k o ≡ some (normal (subRule μ (parts r r′ k)))
     go none h = absurd (h μ (w .0))
     go (some m) h = ap some (same-record (left r) (right r′) k c m h μ w)
+
+-- .. and the values of the parents of an instance.
+pub parents-any :
+    (F : Term) (r r′ : Rule) (k : ℕ) (c : Term) (μ : ℕ → Term) → nth (right r′ .hyps) k ≡ some c → Mgu (left r .concl) c μ
+    → (θ : ℕ → Term) (z : ℕ) → parents F r r′ k θ z ≡ sub (before (varsOf (dropCopies (subRule μ (parts r r′ k)))) F θ) (μ z)
+unfolding parents unifierAt orElse parts base left-over sub Mgu
+parents-any F r r′ k c μ e w θ z =
+    ap (λ (o : Option Term). sub (before (varsOf (dropCopies (resolvent (left r) (right r′) k (unifierAt (left r) o)))) F θ) (apply (unifierAt (left r) o) (var z))) e
+    ∙ go (unify (left r .concl) c) (unifier-of (left r .concl) c)
+  where
+    go : (o : Option Bindings) → MguOk (left r .concl) c o
+        → sub (before (varsOf (dropCopies (resolvent (left r) (right r′) k (orElse [] o)))) F θ) (apply (orElse [] o) (var z)) ≡ sub (before (varsOf (dropCopies (subRule μ (parts r r′ k)))) F θ) (μ z)
+    go none h = absurd (h μ (w .0))
+    go (some m) h = values-same (left r) (right r′) k c m h μ w F θ (var z)

@@ -1,0 +1,3 @@
+pub mod Imply
+pub mod ImplyLaws
+pub mod Filter
