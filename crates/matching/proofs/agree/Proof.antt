@@ -4,10 +4,6 @@ use Rattle.matching.proofs.Laws.{agree-is}
 use borrow.Author.Needs.{needs}
 use Rattle.matching.proofs.agree.Statement.{statement}
 use Rattle.matching.proofs.agree.Tie as tie
-use Rattle.matching.proofs.agree.Reads as reads
-use Rattle.matching.proofs.agree.Lts as lts
-use Rattle.records.proofs.parts.part.Reads as part-reads
-use Rattle.records.proofs.parts.same_bytes.Reads as same-bytes-reads
 
 part-requires : tie.Need-part-requires
 part-requires c κs = search needs

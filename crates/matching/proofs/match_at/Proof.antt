@@ -1,10 +1,10 @@
 -- `matching::match_at` meets its contract. The invariant: the answer is that for the pattern from token i on, against the text from p on, under the bindings so far. Assumes nothing.
-use mathlib.Core.Path.{_≡_, refl, sym, ap, _∙_}
-use mathlib.Core.Bool.{Bool, true, false}
+use mathlib.Core.Path.{_≡_, sym, ap, _∙_}
+use mathlib.Core.Bool.{Bool}
 use mathlib.Core.List.{List}
 use Prim.Native.Nat.{ℕ, _≤_, _+_, _-_}
 use native.Mathlib.Omega.{arith}
-use lib.ListN.{length, drop, set, length-set}
+use lib.ListN.{length, drop, length-set}
 use Rattle.records.proofs.Laws.{says-no, says-yes}
 use Rattle.records.specs.Symbols.{arityOf}
 use Rattle.matching.specs.Match.{matched}
@@ -12,14 +12,6 @@ use Rattle.matching.proofs.Laws.{symbol-inside, symbol-no, symbol-yes, 
 use borrow.Author.Needs.{needs}
 use Rattle.matching.proofs.match_at.Statement.{statement}
 use Rattle.matching.proofs.match_at.Tie as tie
-use Rattle.matching.proofs.match_at.Reads as reads
-use Rattle.matching.proofs.match_at.Lts as lts
-use Rattle.matching.proofs.agree.Reads as agree-reads
-use Rattle.matching.proofs.bind.Reads as bind-reads
-use Rattle.matching.proofs.wide16.Reads as wide16-reads
-use Rattle.records.proofs.parts.byte_at.Reads as byte-at-reads
-use Rattle.records.proofs.parts.wide.Reads as wide-reads
-use Rattle.terms.proofs.span.Reads as span-reads
 
 abbrev Inv-loop : tie.InvT-loop
 Inv-loop symbols pattern text from binds₀ i₀ p₀ binds i p =
@@ -50,8 +42,14 @@ returns : tie.Need-returns Inv-loop μ-loop
 returns c =
     let a = (c .before .before .before .before .before .before .before .before .before .before .before .before .args) in
     let l = (c .before .before .before .before .before .before .before .loop) in
+    let loop-test′ = (c .before .before .before .before .before .before .loop-test) in
+    let wide′ = (c .before .before .before .before .wide) in
+    let if1′ = (c .before .before .before .if1) in
+    let if2′ = (c .if2) in
+    let wide2′ = (c .before .wide2) in
+    let byte-at′ = (c .before .before .byte-at) in
     let ar = arityOf (a .symbols .now) in
-    let z = l .inv .3 ∙ symbol-no ar (a .pattern .now) (a .text .now) (l .i) (l .p) (l .binds) ((c .before .before .before .before .before .before .loop-test) .taken) ((c .before .before .before .before .wide) .result) ((c .before .before .before .before .wide) .ensures .0) ((c .before .before .before .if1) .taken) (λ e. (c .if2) .taken ((c .before .wide2) .ensures .0 ∙ (c .before .before .byte-at) .ensures ∙ e)) in
+    let z = l .inv .3 ∙ symbol-no ar (a .pattern .now) (a .text .now) (l .i) (l .p) (l .binds) (loop-test′ .taken) (wide′ .result) (wide′ .ensures .0) (if1′ .taken) (λ e. if2′ .taken (wide2′ .ensures .0 ∙ byte-at′ .ensures ∙ e)) in
     (sym (ap (λ (m : Bool × List ℕ). m .0) z), sym (ap (λ (m : Bool × List ℕ). m .1) z))
 
 add-i : tie.Need-add-i Inv-loop μ-loop
@@ -67,10 +65,16 @@ loop-again : tie.Need-loop-again Inv-loop μ-loop
 loop-again c =
     let a = (c .before .before .before .before .before .before .before .before .before .before .before .before .args) in
     let l = (c .before .before .before .before .before .before .before .loop) in
+    let wide2′ = (c .before .wide2) in
+    let byte-at′ = (c .before .before .byte-at) in
+    let if2′ = (c .if2) in
+    let wide′ = (c .before .before .before .before .wide) in
+    let if1′ = (c .before .before .before .if1) in
+    let loop-test′ = (c .before .before .before .before .before .before .loop-test) in
     let ar = arityOf (a .symbols .now) in
-    let e = sym ((c .before .wide2) .ensures .0 ∙ (c .before .before .byte-at) .ensures) ∙ (c .if2) .left in
-    let k = symbol-inside (a .text .now) (l .p) ((c .before .before .before .before .wide) .result) ((c .before .before .before .if1) .taken) e in
-    (omega arith, omega arith, l .inv .2, l .inv .3 ∙ symbol-yes ar (a .pattern .now) (a .text .now) (l .i) (l .p) (l .binds) ((c .before .before .before .before .before .before .loop-test) .taken) ((c .before .before .before .before .wide) .result) ((c .before .before .before .before .wide) .ensures .0) ((c .before .before .before .if1) .taken) e)
+    let e = sym (wide2′ .ensures .0 ∙ byte-at′ .ensures) ∙ if2′ .left in
+    let k = symbol-inside (a .text .now) (l .p) (wide′ .result) (if1′ .taken) e in
+    (omega arith, omega arith, l .inv .2, l .inv .3 ∙ symbol-yes ar (a .pattern .now) (a .text .now) (l .i) (l .p) (l .binds) (loop-test′ .taken) (wide′ .result) (wide′ .ensures .0) (if1′ .taken) e)
 
 span-requires : tie.Need-span-requires Inv-loop μ-loop
 span-requires c κs = search needs
@@ -100,8 +104,15 @@ loop-again-2 : tie.Need-loop-again-2 Inv-loop μ-loop
 loop-again-2 c =
     let a = (c .before .before .before .before .before .before .before .before .before .before .before .before .before .before .before .before .before .args) in
     let l = (c .before .before .before .before .before .before .before .before .before .before .before .before .loop) in
+    let span′ = (c .before .before .before .before .before .before .before .span) in
+    let bind′ = (c .before .before .bind) in
+    let wide′ = (c .before .before .before .before .before .before .before .before .before .wide) in
+    let loop-test′ = (c .before .before .before .before .before .before .before .before .before .before .before .loop-test) in
+    let if1′ = (c .before .before .before .before .before .before .before .before .if1) in
+    let wide16′ = (c .before .before .before .before .before .wide16) in
+    let if3′ = (c .before .before .before .before .if3) in
     let ar = arityOf (a .symbols .now) in
-    (omega arith, omega (arith, (c .before .before .before .before .before .before .before .span) .ensures .1), ap length ((c .before .before .bind) .ensures) ∙ length-set (l .binds) ((c .before .before .before .before .before .before .before .before .before .wide) .result) (l .p + 1) ∙ l .inv .2, l .inv .3 ∙ free-binds ar (a .pattern .now) (a .text .now) (l .i) (l .p) (l .binds) ((c .before .before .before .before .before .before .before .before .before .before .before .loop-test) .taken) ((c .before .before .before .before .before .before .before .before .before .wide) .result) ((c .before .before .before .before .before .before .before .before .before .wide) .ensures .0) ((c .before .before .before .before .before .before .before .before .if1) .left) ((c .before .before .before .before .before .before .before .span) .result) ((c .before .before .before .before .before .before .before .span) .ensures .0) ((c .before .before .before .before .before .wide16) .result) ((c .before .before .before .before .before .wide16) .ensures .0) ((c .before .before .before .before .if3) .taken) ∙ ap (λ (b : List ℕ). matched ar (drop (l .i + 1) (a .pattern .now)) (a .text .now) (l .p + (c .before .before .before .before .before .before .before .span) .result) b) (sym ((c .before .before .bind) .ensures)))
+    (omega arith, omega (arith, span′ .ensures .1), ap length (bind′ .ensures) ∙ length-set (l .binds) (wide′ .result) (l .p + 1) ∙ l .inv .2, l .inv .3 ∙ free-binds ar (a .pattern .now) (a .text .now) (l .i) (l .p) (l .binds) (loop-test′ .taken) (wide′ .result) (wide′ .ensures .0) (if1′ .left) (span′ .result) (span′ .ensures .0) (wide16′ .result) (wide16′ .ensures .0) (if3′ .taken) ∙ ap (λ (b : List ℕ). matched ar (drop (l .i + 1) (a .pattern .now)) (a .text .now) (l .p + span′ .result) b) (sym (bind′ .ensures)))
 
 sub-agree : tie.Need-sub-agree Inv-loop μ-loop
 sub-agree c = search needs
@@ -116,8 +127,16 @@ returns-2 : tie.Need-returns-2 Inv-loop μ-loop
 returns-2 c =
     let a = (c .before .before .before .before .before .before .before .before .before .before .before .before .before .before .before .args) in
     let l = (c .before .before .before .before .before .before .before .before .before .before .loop) in
+    let loop-test′ = (c .before .before .before .before .before .before .before .before .before .loop-test) in
+    let wide′ = (c .before .before .before .before .before .before .before .wide) in
+    let if1′ = (c .before .before .before .before .before .before .if1) in
+    let span′ = (c .before .before .before .before .before .span) in
+    let wide16′ = (c .before .before .before .wide16) in
+    let if3′ = (c .before .before .if3) in
+    let agree′ = (c .before .agree) in
+    let if4′ = (c .if4) in
     let ar = arityOf (a .symbols .now) in
-    let z = l .inv .3 ∙ bound-no ar (a .pattern .now) (a .text .now) (l .i) (l .p) (l .binds) ((c .before .before .before .before .before .before .before .before .before .loop-test) .taken) ((c .before .before .before .before .before .before .before .wide) .result) ((c .before .before .before .before .before .before .before .wide) .ensures .0) ((c .before .before .before .before .before .before .if1) .left) ((c .before .before .before .before .before .span) .result) ((c .before .before .before .before .before .span) .ensures .0) ((c .before .before .before .wide16) .result) ((c .before .before .before .wide16) .ensures .0) ((c .before .before .if3) .left) (says-no ((c .before .agree) .ensures) ((c .if4) .taken)) in
+    let z = l .inv .3 ∙ bound-no ar (a .pattern .now) (a .text .now) (l .i) (l .p) (l .binds) (loop-test′ .taken) (wide′ .result) (wide′ .ensures .0) (if1′ .left) (span′ .result) (span′ .ensures .0) (wide16′ .result) (wide16′ .ensures .0) (if3′ .left) (says-no (agree′ .ensures) (if4′ .taken)) in
     (sym (ap (λ (m : Bool × List ℕ). m .0) z), sym (ap (λ (m : Bool × List ℕ). m .1) z))
 
 add-i-3 : tie.Need-add-i-3 Inv-loop μ-loop
@@ -133,8 +152,16 @@ loop-again-3 : tie.Need-loop-again-3 Inv-loop μ-loop
 loop-again-3 c =
     let a = (c .before .before .before .before .before .before .before .before .before .before .before .before .before .before .before .args) in
     let l = (c .before .before .before .before .before .before .before .before .before .before .loop) in
+    let span′ = (c .before .before .before .before .before .span) in
+    let loop-test′ = (c .before .before .before .before .before .before .before .before .before .loop-test) in
+    let wide′ = (c .before .before .before .before .before .before .before .wide) in
+    let if1′ = (c .before .before .before .before .before .before .if1) in
+    let wide16′ = (c .before .before .before .wide16) in
+    let if3′ = (c .before .before .if3) in
+    let agree′ = (c .before .agree) in
+    let if4′ = (c .if4) in
     let ar = arityOf (a .symbols .now) in
-    (omega arith, omega (arith, (c .before .before .before .before .before .span) .ensures .1), l .inv .2, l .inv .3 ∙ bound-yes ar (a .pattern .now) (a .text .now) (l .i) (l .p) (l .binds) ((c .before .before .before .before .before .before .before .before .before .loop-test) .taken) ((c .before .before .before .before .before .before .before .wide) .result) ((c .before .before .before .before .before .before .before .wide) .ensures .0) ((c .before .before .before .before .before .before .if1) .left) ((c .before .before .before .before .before .span) .result) ((c .before .before .before .before .before .span) .ensures .0) ((c .before .before .before .wide16) .result) ((c .before .before .before .wide16) .ensures .0) ((c .before .before .if3) .left) (says-yes ((c .before .agree) .ensures) ((c .if4) .left)))
+    (omega arith, omega (arith, span′ .ensures .1), l .inv .2, l .inv .3 ∙ bound-yes ar (a .pattern .now) (a .text .now) (l .i) (l .p) (l .binds) (loop-test′ .taken) (wide′ .result) (wide′ .ensures .0) (if1′ .left) (span′ .result) (span′ .ensures .0) (wide16′ .result) (wide16′ .ensures .0) (if3′ .left) (says-yes (agree′ .ensures) (if4′ .left)))
 
 same-length-3 : tie.Need-same-length-3 Inv-loop μ-loop
 same-length-3 c = search needs
