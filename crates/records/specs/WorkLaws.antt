@@ -22,7 +22,7 @@ use Rattle.records.specs.RuleLaws.{signature-agrees}
 use Rattle.records.specs.Work.{tokenCount, body, state, pair, originBytes, encodeRec, encodeRecs, over, number, decodeOrigin, decodeRec, recsOf}
 
 -- ---- one record
--- A record that the bytes can hold: well-formed, within T tokens, with variables below 64 and numbers of two bytes.
+-- A record that the bytes can hold: well-formed, with at most 32 hypotheses, within T tokens, with variables below 64 and numbers of two bytes.
 abbrev pub Holdable : Bool → Origin → Type 0
 Holdable goal (input i) = (goal ≡ false) × (i < 65536)
 Holdable goal (combined k i j) = (i < 65536) × (j < 65536)
@@ -30,6 +30,7 @@ Holdable goal asked = goal ≡ true
 
 pub record Fine (sy : List ℕ) (T : ℕ) (goal : Bool) (x : Rec) : Type 0 where
   pub formed : wellFormed (signature sy) (x .rule) ≡ true
+  pub few : length (x .rule .hyps) ≤ 32
   pub small : EachVars Small (x .rule .concl ∷ x .rule .hyps)
   pub fits : tokenCount (x .rule) ≤ T
   pub origin : Holdable goal (x .origin)

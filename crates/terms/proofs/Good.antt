@@ -15,7 +15,8 @@ use Rattle.records.specs.Rules.{inTerm, goodTokens, tokensOf, decodeRule}
 use Rattle.terms.specs.Facts.{baseOpen, hypothesesOpen}
 use Rattle.terms.specs.Vars.{held, heldOf, allHeld}
 use Rattle.terms.proofs.Sets.{both-yes, held-yes}
-use Rattle.terms.proofs.Decoded.{hyps-drop, hypotheses-open, size-rule}
+use Rattle.terms.specs.OpenLaws.{hyps-drop, hypotheses-open}
+use Rattle.terms.proofs.Decoded.{size-rule}
 use Rattle.terms.proofs.Same.{kind-symbol}
 
 chosen : (b c : Bool) → _≡_ {A = Bool} (elim b [ true ↦ c | false ↦ false ]) true → (b ≡ true) × (c ≡ true)

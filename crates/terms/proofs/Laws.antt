@@ -72,13 +72,6 @@ both-true true = refl
 both-true false = refl
 
 module _ (o : ℕ → Bool) where
-  pub open-long : (f : List ℕ) → (length f ≡ 2 → ⊥) → openBytes o f ≡ false
-  unfolding openBytes
-  open-long [] h = refl
-  open-long (p ∷ []) h = refl
-  open-long (p ∷ x ∷ []) h = absurd (h refl)
-  open-long (p ∷ x ∷ y ∷ f) h = refl
-
   open-two : (f : List ℕ) → length f ≡ 2 → openBytes o f ≡ both (o (getD f 0 0)) (ltb (getD f 1 0) 64)
   unfolding openBytes
   open-two [] h = absurd (omega arith)

@@ -12,7 +12,8 @@ use Rattle.model.specs.Term.{Term, var, con, _·_, same, occurs}
 use Rattle.model.specs.Sign.{Signature, given, wants, factWants, whole, isTerm, isFact}
 use Rattle.records.specs.Tokens.{leaves, applied, terms}
 use Rattle.records.specs.Symbols.{kindOf, arityOf, isFunction, signature, sameBytes}
-use Rattle.terms.proofs.Decoded.{leaf-var, leaf-con, arity-variable, leaves-term}
+use Rattle.records.specs.TokenLaws.{leaf-var, leaf-con}
+use Rattle.terms.specs.OpenLaws.{arity-variable, leaves-term}
 
 -- ---- equal facts
 bytes-next : (b c : ℕ) (l m : List ℕ) → eqb b c ≡ true → sameBytes (b ∷ l) (c ∷ m) ≡ sameBytes l m

@@ -28,7 +28,7 @@ unfolding andThen forget
 then-forget (going t) f p = p t
 then-forget (stopped w t) f p = refl
 
-then-plain : (g : Table → Progress Table) (f : Table → Progress Table) → Plain g → Plain f → Plain (λ t. andThen (g t) f)
+pub then-plain : (g : Table → Progress Table) (f : Table → Progress Table) → Plain g → Plain f → Plain (λ t. andThen (g t) f)
 then-plain g f q p t = then-forget (g t) f p ∙ ap (λ (o : Progress (List Rec)). andThen o (λ u. forget (f (bare u)))) (q t) ∙ sym (then-forget (g (bare (t .recs))) f p)
 
 module _ (S : Setting) where

@@ -7,7 +7,7 @@ use mathlib.Core.List.{List, [], _∷_, _++_, map}
 use mathlib.Core.Path.{_≡_, refl, ap, ap₂, _∙_, subst, sym}
 use mathlib.Core.Logic.{_⊎_, inl, inr, _≢_}
 use lib.Dec.{eqb}
-use lib.ListN.{length}
+use lib.ListN.{length, getD, length-map}
 use borrow.Author.Tests.{eqb-true, eqb-false, eq-eqb, ne-eqb}
 use Rattle.model.specs.Term.{Term, var, con, _·_, sub, same, elem, distinct, unify, apply, Bindings, vars}
 use Rattle.theory.specs.Subst.{apply-sub, sub-sub, sub-var, sub-ext, map-sub-sub, In, inVar, inLeft, inRight}
@@ -15,7 +15,7 @@ use Rattle.theory.specs.Embed.{Sel, here, there}
 use Rattle.theory.specs.Unify.{MguOk, Unifier}
 use Rattle.theory.specs.Implies.{same-ok, SameOk}
 use Rattle.theory.specs.Basics.{true≢false, no-confusion}
-use Rattle.theory.specs.Combine.{Has, has-cons, has-nil, InAll, inHead, inTail, unifier-of, distinct-has, map-sub-ext, in-varsAll, in-vars, vars-rest}
+use Rattle.theory.specs.Combine.{Has, has-cons, has-nil, InAll, inHead, inTail, unifier-of, distinct-has, map-sub-ext, in-varsAll, in-vars, vars-rest, place-at}
 use Rattle.model.specs.Write.{orElse, before, unifierAt, parents}
 use Rattle.model.specs.Rule.{Rule, normal, place, among, firsts, varsAll, varsOf, subRule, renumber, dropCopies, nth, without, left, right, resolvent, byUnifier, upon, combine}
 
@@ -110,6 +110,24 @@ module _ (f g : ℕ → ℕ) (r : Rule) (h : Inv f g (allVars r)) where
       rule-path
       (sub-sub _ _ (r .concl) ∙ sub-ext _ _ (r .concl) (λ x i. ap (λ (n : ℕ). var (suc n)) (place-renamed x (in-vars _ i))))
       (rw map-sub-sub (map-sub-ext _ _ (r .hyps) (λ x i. ap (λ (n : ℕ). var (suc n)) (place-renamed x (vars-rest (r .concl) (in-varsAll i))))))
+
+-- a numbered rule has as many variables
+pub renumber-count : (r : Rule) → length (varsOf (renumber r)) ≡ length (varsOf r)
+unfolding renumber varsOf allVars
+renumber-count r =
+    ap length (vars-renamed (λ x. suc (place x (varsOf r))) back r (inv-has (λ x. suc (place x (varsOf r))) back (allVars r) there′))
+    ∙ length-map (varsOf r) (λ x. suc (place x (varsOf r)))
+  where
+    back : ℕ → ℕ
+    back zero = 0
+    back (suc i) = getD (varsOf r) i 0
+
+    known : (x : ℕ) → Has x [] ⊎ Has x (varsOf r) → Has x (varsOf r)
+    known x (inl h) = absurd (has-nil h)
+    known x (inr h) = h
+
+    there′ : (x : ℕ) → Has x (allVars r) → back (suc (place x (varsOf r))) ≡ x
+    there′ x h = place-at x (varsOf r) (known x (distinct-has x [] (allVars r) h))
 
 -- ---- dropping copies, through a substitution s with the inverse s′ on the terms
 abbrev InvT : (ℕ → Term) → (ℕ → Term) → List Term → Type 0

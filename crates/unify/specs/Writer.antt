@@ -36,7 +36,7 @@ unfolding codes codesAll applied
 codes-applied t [] = sym (append-nil (codes t))
 codes-applied t (u ∷ us) = codes-applied (t · u) us ∙ append-assoc (codes t) (codes u) (codesAll us)
 
-codesAll-append : (us vs : List Term) → codesAll (us ++ vs) ≡ codesAll us ++ codesAll vs
+pub codesAll-append : (us vs : List Term) → codesAll (us ++ vs) ≡ codesAll us ++ codesAll vs
 unfolding codesAll
 codesAll-append [] vs = refl
 codesAll-append (u ∷ us) vs = ap (codes u ++_) (codesAll-append us vs) ∙ sym (append-assoc (codes u) (codesAll us) (codesAll vs))

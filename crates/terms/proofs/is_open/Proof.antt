@@ -1,7 +1,8 @@
 -- `terms::is_open` meets its contract, by the length and the second token. Assumes nothing.
 use mathlib.Core.Path.{sym, _∙_}
 use borrow.Author.Needs.{needs}
-use Rattle.terms.proofs.Laws.{open-long, open-symbol, open-variable}
+use Rattle.terms.specs.OpenLaws.{open-long}
+use Rattle.terms.proofs.Laws.{open-symbol, open-variable}
 use Rattle.terms.specs.Facts.{baseOpen}
 use Rattle.terms.proofs.is_open.Statement.{statement}
 use Rattle.terms.proofs.is_open.Tie as tie
