@@ -35,11 +35,11 @@ pub record Split (B : Rule → Type 0) (n : ℕ) (x : Term) (fs : List Term) : T
   pub total : n ≡ suc (left + right)
 
 module _ {B : Rule → Type 0} where
-  pub split : {n : ℕ} {x : Term} {r fs : List Term} → Sel x r fs → Forest B n fs → Split B n x r
+  pub split : {x : Term} {n : ℕ} {r fs : List Term} → Sel x r fs → Forest B n fs → Split B n x r
   split here (node {n = n} {m = m} {gs = gs} r b i c t u) =
       record { root = r; known = b; below = gs; instance' = i; left = n; right = m; children = t; others = u; total = refl }
   split (there s) (node {n = n} {m = m} r b i c t u) =
-      let w = split s u in
+      let w = split {n = m} s u in
       record {
         root = w.root;
         known = w.known;
@@ -81,7 +81,7 @@ module _ {B : Rule → Type 0} where
   all_closed κ nil = refl
   all_closed κ (also {f = f} d ds e) = ap₂ ◌∷◌ (closed_sub f (derives_closed d) κ) (all_closed κ ds)
 
-  derives_sel : {n : ℕ} {x : Term} {r l : List Term} → Sel x r l → DerivesAll Closed B n l → (a : ℕ) × (b : ℕ) × (n ≡ a + b) × Derives Closed B a x × DerivesAll Closed B b r
+  derives_sel : {x : Term} {n : ℕ} {r l : List Term} → Sel x r l → DerivesAll Closed B n l → (a : ℕ) × (b : ℕ) × (n ≡ a + b) × Derives Closed B a x × DerivesAll Closed B b r
   derives_sel here (also {n = n} {m = m} d ds e) = (n, m, e, d, ds)
   derives_sel (there i) (also {n = n} d ds e) =
       let w = derives_sel i ds in
@@ -89,9 +89,9 @@ module _ {B : Rule → Type 0} where
 
   pub derives_emb : {n : ℕ} {a l : List Term} → Emb a l → DerivesAll Closed B n l → (m : ℕ) × (m ≤ n) × DerivesAll Closed B m a
   derives_emb done ds = (0, omega arith, nil)
-  derives_emb (pick i e) ds =
+  derives_emb {n = n} (pick i e) ds =
       let w = derives_sel i ds in
-      let v = derives_emb e w.4 in
+      let v = derives_emb {n = w.1} e w.4 in
       (w.0 + v.0, omega (arith, w.2, v.1), also w.3 v.2 refl)
 
   -- the instance that r implies, with closed values for all variables

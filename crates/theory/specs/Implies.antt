@@ -166,9 +166,9 @@ choose_some k (x ∷ q) b h = go (k x q) refl h (choose_some (λ y r. k y (x ∷
     go (some c) e h' rec = (x, q, here, e ∙ h')
     go none e h' rec = let w = rec h' in (w.0, x ∷ w.1, there w.2, w.3)
 
-pub choose_none : (k : Term → List Term → Option Bindings) {x : Term} {r q : List Term} → choose k q ≡ none → Sel x r q → k x r ≡ none
+pub choose_none : {x : Term} (k : Term → List Term → Option Bindings) {r q : List Term} → choose k q ≡ none → Sel x r q → k x r ≡ none
 unfolding choose
-choose_none k {x} {r} h (here {l = l}) = go (k x l) refl h
+choose_none {x = x} k h (here {l = l}) = go (k x l) refl h
   where
     go : (o : Option Bindings) → k x l ≡ o → Fails (elim o [ some c ↦ some c | none ↦ choose (λ y s. k y (x ∷ s)) l ]) → k x l ≡ none
     go (some c) e h' = no_confusion (cc)

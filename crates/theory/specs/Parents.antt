@@ -18,6 +18,7 @@ use Rattle.model.specs.Write.{or_else, before, unifier_at, parents}
 
 has_elem : (x : ℕ) {r : List ℕ} (l : List ℕ) → Sel x r l → elem x l ≡ true
 unfolding elem
+has_elem x [] i = elim i [ ]
 has_elem x (y ∷ l) here = go (eqb x x) (eq-eqb x x refl)
   where
     go : (c : Bool) → c ≡ true → elim c as (λ _. Bool) [ true ↦ true | false ↦ elem x l ] ≡ true

@@ -28,7 +28,7 @@ module _ {B : Rule → Type 0} where
       let b = all_from σ l (λ x m. f x (mem_there m)) in
       (_, also a.1 b.1 refl)
 
-  derives_sel : {n : ℕ} {x : Term} {r l : List Term} → Sel x r l → DerivesAll Closed B n l → D B x
+  derives_sel : {x : Term} {n : ℕ} {r l : List Term} → Sel x r l → DerivesAll Closed B n l → D B x
   derives_sel here (also d ds e) = (_, d)
   derives_sel (there i) (also d ds e) = derives_sel i ds
 

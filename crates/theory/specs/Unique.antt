@@ -198,13 +198,13 @@ is_var_lem s (var y) x e = refl
 is_var_lem s (con f) x e = no_confusion (cc)
 is_var_lem s (a · b) x e = no_confusion (cc)
 
-fixed : (s : ℕ → Term) {t : Term} {x : ℕ} → In x t → sub s t ≡ t → s x ≡ var x
+fixed : (s : ℕ → Term) {x : ℕ} {t : Term} → In x t → sub s t ≡ t → s x ≡ var x
 unfolding sub
 fixed s in_var e = e
 fixed s (in_left i) e = fixed s i (cc)
 fixed s (in_right i) e = fixed s i (cc)
 
-fixed_all : (s s' : ℕ → Term) {l : List Term} {x : ℕ} → InvT s s' l → InAll x l → sub s' (s x) ≡ var x
+fixed_all : (s s' : ℕ → Term) {x : ℕ} {l : List Term} → InvT s s' l → InAll x l → sub s' (s x) ≡ var x
 fixed_all s s' h (in_head {t = t} i) = fixed (λ x. sub s' (s x)) i (sym (sub_sub s' s t) ∙ h.0)
 fixed_all s s' h (in_tail i) = fixed_all s s' h.1 i
 
