@@ -3,7 +3,7 @@ ghost use Rattle.std.specs.Prelude.{◌≡◌, ℕ, ◌-◌, ◌≤◌, ◌<◌,
 ghost use Rattle.records.specs.Symbols.{arity_of};
 ghost use Rattle.records.specs.Rules.{tokens_of};
 ghost use Rattle.records.specs.Found.{found_of};
-ghost use Rattle.imply.specs.Imply.{free, used_by, carried as carriedBy, implies_bytes, first_bytes};
+ghost use Rattle.imply.specs.Imply.{free, used_by, carried as carried_by, implies_bytes, first_bytes};
 ghost use Rattle.imply.specs.Filter.{may_match, has_place, may_imply};
 
 use records::Found;
@@ -63,7 +63,7 @@ fn may_match(pattern: &[u8], text: &[u8], from: usize) -> bool
 // Do the hypotheses of r from hypothesis k on go one to one into those of q that are not used, under the bindings?
 fn carried(symbols: &[u8], r: &[u8], q: &[u8], k: usize, used: u32, binds: [u16; 64]) -> bool
     requires { get_or q.now 0 0 ≤ 32 }
-    ensures { result ≡ carriedBy (arity_of symbols.now) (tokens_of r.now) (tokens_of q.now) (get_or q.now 0 0) k (get_or r.now 0 0 - k) used binds }
+    ensures { result ≡ carried_by (arity_of symbols.now) (tokens_of r.now) (tokens_of q.now) (get_or q.now 0 0) k (get_or r.now 0 0 - k) used binds }
 {
     if hypotheses(r) <= k {
         return true;

@@ -32,7 +32,7 @@ pub fn agree(text: &[u8], n: usize, s: usize, p: usize) -> bool
 pub fn match_at(symbols: &[u8], pattern: &[u8], text: &[u8], from: usize, binds: &mut [u16]) -> bool
     requires { (from ≤ length text.now) × ((length text.now ≤ 65534) × (length binds.old ≡ 64)) }
     ensures { (result ≡ (matched (arity_of symbols.now) pattern.now text.now from binds.old).0)
-        × (binds.new ≡ (matched (arityOf symbols.now) pattern.now text.now from binds.old).1) }
+        × (binds.new ≡ (matched (arity_of symbols.now) pattern.now text.now from binds.old).1) }
 {
     let mut i: usize = 0;
     let mut p = from;
