@@ -45,6 +45,18 @@ def blocks(text):
 class Places:
     def __init__(self, d):
         self.by = {p[0]: p for p in d["places"]}
+        self.arm = {p[0]: a for p, a in zip(d["places"], d["arms"]) if a}
+
+    def arms(self, at):
+        """What the arms of matches tell on the way to a place: (old step, path) to the arm's own field."""
+        out = {}
+        while at is not None:
+            a = self.arm.get(at)
+            if a:
+                for new, old, path in a[2]:
+                    out.setdefault((plain(old), ".".join(path)), f"{a[0]}.{new}")
+            at = self.by[at][1]
+        return out
 
     def chain(self, at):
         """The steps from a place back to the start: (old name, new name, renamed fields)."""
@@ -56,16 +68,26 @@ class Places:
         return out
 
 
-def steps(body, chain, said):
+def steps(body, chain, arms, said):
     """Rewrites each c.before.. path of a body."""
+
+    def arm(m):
+        for (old, path), new in arms.items():
+            if path and plain(m.group(1)) == old and (m.group(2) + ".").startswith("." + path + "."):
+                return f"c.{new}{m.group(2)[len(path) + 1:]}"
+        return m.group(0)
+
+    body = re.sub(r"(?<![\w'.-])c(?:\.before)*\.([\w'-]+)((?:\.[\w'-]+)+)", arm, body)
 
     def one(m):
         depth = m.group(1).count(".before")
         step = m.group(2)
         if step in ("args", "requires", "ranges", "well_formed", "lifetimes", "type_inv", "auto", "utf8"):
-            return f"c.{step}"
+            return f"c.{step}{m.group(3) or str()}"
         found = [(i, s) for i, s in enumerate(chain) if plain(s[0]) == plain(step)]
         if not found:
+            if step.startswith("in-"):
+                return m.group(0)
             said.append(f"no step {step}")
             return m.group(0)
         if len(found) > 1:
@@ -162,7 +184,10 @@ def turn(crate, folder, key, d):
         if m:
             tied += 1
             old = plain(m.group(1))
-            at = [i for i, n in enumerate(needs) if plain(n[0]) == old]
+            words = {old, plain(name), re.sub(r"^(overflow|nonzero)_", "", old), re.sub(r"^slice_bounds_", "part_", old)}
+            at = [i for i, n in enumerate(needs) if plain(n[0]) == old] or [i for i, n in enumerate(needs) if plain(n[0]) in words]
+            if not at and re.search(r"=\s*search rules\s*$", b.strip()):
+                continue
             if not at:
                 said.append(f"no goal {m.group(1)}")
                 own.append("-- LEFT\n" + b)
@@ -175,7 +200,7 @@ def turn(crate, folder, key, d):
             if re.search(rf"^{re.escape(name)}(?: \S+)* =\s*search rules\s*$", body.strip(), re.S):
                 continue
             chain = where.chain(place)
-            body = steps(body, chain, said)
+            body = steps(body, chain, where.arms(place), said)
             body = re.sub(rf"^{re.escape(name)} (\S+)(?: κs)? =", f"{new} \\1 =", body, flags=re.M)
             comment = "".join(l + "\n" for l in lines[:i])
             answers.append(f"{comment}pub {new} : goal.{new}\n{body}")

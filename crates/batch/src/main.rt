@@ -1,4 +1,6 @@
 // Answers a stream of cases from standard input, each by its line, until the stream ends or a case is bad.
+#![tactic(auto)]
+
 use answer::bad_case;
 use cases::{check_case, run_case};
 use head::{Head, read_head};

@@ -1,4 +1,6 @@
 // The step checker: are the steps of a list a derivation of the query from the rules?
+#![tactic(auto)]
+
 ghost use Rattle.std.specs.Prelude.{◌≡◌, ◌+◌, ◌*◌, ◌≤◌};
 ghost use Rattle.checker.specs.Steps.{steps_length, check_good, check_of};
 ghost use Rattle.checker.specs.Answers.{GoodInput, checked_number, checked_place};

@@ -1,4 +1,6 @@
 // Implication of one rule record by another, on their very bytes, and the first live record of a table that implies one.
+#![tactic(auto)]
+
 ghost use Rattle.std.specs.Prelude.{◌≡◌, ℕ, ◌-◌, ◌≤◌, ◌<◌, length, get_or};
 ghost use Rattle.records.specs.Symbols.{arity_of};
 ghost use Rattle.records.specs.Rules.{tokens_of};

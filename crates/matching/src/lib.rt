@@ -1,4 +1,6 @@
 // One-way matching on tokens: the variables of a pattern are bound to places of a text.
+#![tactic(auto)]
+
 ghost use Rattle.std.specs.Prelude.{◌≡◌, ℕ, ◌+◌, ◌≤◌, ◌<◌, length, drop, get_or, set};
 ghost use Rattle.records.specs.Symbols.{arity_of};
 ghost use Rattle.matching.specs.Match.{agree as agrees, matched};

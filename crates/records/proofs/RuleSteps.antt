@@ -40,10 +40,13 @@ module _ (sy : List ℕ) (v : ℕ) where
     unfolding good_tokens
     fact_no e f k = let q : n ≡ suc (n - 1) = omega arith in rw (e, q, drop-cons s i 0, ne_eqb _ _ k, good_tokens)
 
+    next : drop i s ≡ get_or s i 0 ∷ drop (i + 1) s
+    next = rw (add-one, drop-cons s i 0) refl
+
     fact_next : (k : ℕ) → m ≡ 0 → n ≡ suc k → kind_of sy (get_or s i 0) ≡ 1
         → good_tokens sy v m n (drop i s) ≡ good_tokens sy v (arity_of sy (get_or s i 0)) k (drop (i + 1) s)
     unfolding good_tokens
-    fact_next k e q f = rw (e, q, add-one, drop-cons s i 0, eq-eqb _ _ f, good_tokens)
+    fact_next k e q f = rw (e, q, next, eq-eqb _ _ f, good_tokens)
 
     pub fact_yes : m ≡ 0 → (n ≡ 0 → ⊥) → kind_of sy (get_or s i 0) ≡ 1
         → good_tokens sy v m n (drop i s) ≡ good_tokens sy v (arity_of sy (get_or s i 0)) (n - 1) (drop (i + 1) s)
@@ -56,7 +59,7 @@ module _ (sy : List ℕ) (v : ℕ) where
     term_next : (k : ℕ) → m ≡ suc k → in_term sy v (get_or s i 0) ≡ true
         → good_tokens sy v m n (drop i s) ≡ good_tokens sy v (k + arity_of sy (get_or s i 0)) n (drop (i + 1) s)
     unfolding good_tokens
-    term_next k q f = rw (q, add-one, drop-cons s i 0, f, good_tokens)
+    term_next k q f = rw (q, next, f, good_tokens)
 
     pub term_yes : (m ≡ 0 → ⊥) → in_term sy v (get_or s i 0) ≡ true
         → good_tokens sy v m n (drop i s) ≡ good_tokens sy v (m - 1 + arity_of sy (get_or s i 0)) n (drop (i + 1) s)

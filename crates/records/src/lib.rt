@@ -1,4 +1,6 @@
 // Input as bytes: the symbol table, the rules and the query, and which input is refused, by table, cause and place.
+#![tactic(auto)]
+
 ghost use Rattle.std.specs.Prelude.{◌≡◌};
 ghost use Rattle.records.specs.Input.{refusal_number, fault_place, refusal_place};
 

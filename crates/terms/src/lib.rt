@@ -1,3 +1,5 @@
+#![tactic(auto)]
+
 ghost use Rattle.std.specs.Prelude.{◌≡◌, [], ◌+◌, ◌≤◌, ◌<◌, length, drop};
 ghost use Rattle.model.specs.Term.{distinct};
 ghost use Rattle.records.specs.Tokens.{span as span_of};

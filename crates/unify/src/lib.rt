@@ -1,3 +1,5 @@
+#![tactic(auto)]
+
 ghost use Rattle.std.specs.Prelude.{◌≡◌, ℕ, ◌+◌, ◌-◌, ◌*◌, ◌≤◌, ◌<◌, min, max, length, get_or, set};
 ghost use Rattle.unify.specs.Forest.{Down, find};
 ghost use Rattle.unify.specs.Nodes.{node, Past};
