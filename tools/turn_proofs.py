@@ -14,7 +14,7 @@ import re
 import sys
 
 SIGNATURE = re.compile(r"^(?:abbrev |pub |unfoldable )*(\S+) :(?: |$)")
-DROPPED = re.compile(r"^use (borrow\.Author\.Rules|Rattle\.\S+\.(Statement|Tie)\b|borrow\.Fn)")
+DROPPED = re.compile(r"^use (borrow\.Author\.Rules|Rattle\.\S+\.(Statement|Tie|Reads|Kinds|Lts-\w+|\{statement\})|borrow\.Fn|Rattle\.\S+\.\{statement\})")
 
 
 def plain(s):
@@ -68,7 +68,7 @@ class Places:
         return out
 
 
-def steps(body, chain, arms, said):
+def steps(body, chain, arms, params, said):
     """Rewrites each c.before.. path of a body."""
 
     def arm(m):
@@ -95,6 +95,10 @@ def steps(body, chain, arms, said):
             said.append(f"{step}: one of {[s[1] for _, s in found]}")
         new, fields = found[0][1][1], found[0][1][2]
         rest = m.group(3) or ""
+        callee = found[0][1][3][3]
+        if rest == ".auto" and callee in params:
+            kept = re.match(r"((?:\.1)*)(\.0)?", body[m.end() :])
+            autos.append((f"c.{new}.auto{kept.group(0)}", f"c.{new}.auto.{params[callee][kept.group(1).count('.1')]}"))
         if rest and rest[1:] in fields:
             rest = "." + fields[rest[1:]]
         return f"c.{new}{rest}"
@@ -109,7 +113,11 @@ def steps(body, chain, arms, said):
                 lambda n: f"{m.group(1)}.{fields.get(n.group(1), n.group(1))}",
                 body,
             )
-    return re.sub(r"(?<![\w'.-])c((?:\.before)*)\.([\w'-]+)(\.[\w'-]+)?", one, body)
+    autos = []
+    body = re.sub(r"(?<![\w'.-])c((?:\.before)*)\.([\w'-]+)(\.[\w'-]+)?", one, body)
+    for old, new in autos:
+        body = re.sub(rf"{re.escape(old)}(?![\w.]*\.[01])", new, body)
+    return body
 
 
 def loop_parts(name, d):
@@ -168,6 +176,8 @@ def turn(crate, folder, key, d):
     text = open(path, encoding="utf-8").read()
     bs = blocks(text)
     head = bs[0]
+    f = re.search(r"\.\+(\w+)\.Lts", key)
+    cycle = f.group(1) if f else None
     title = [l for l in head.splitlines() if l.startswith("--")]
     where = Places(d)
     said = []
@@ -177,14 +187,28 @@ def turn(crate, folder, key, d):
     for b in bs[1:]:
         sig = next(l for l in b.splitlines() if SIGNATURE.match(l))
         name = SIGNATURE.match(sig).group(1)
-        if re.search(r"tie\.(invariant|decreases)", sig):
-            invariants.append(invariant(b, name, d, said))
+        i = re.search(r"(?:tie|\w+-lts)\.((?:invariant|decreases)-\S+)", sig)
+        if i:
+            invariants.append(invariant(re.sub(rf"(?m)^{re.escape(name)} ", i.group(1) + " ", b), i.group(1), d, said))
             continue
-        m = re.search(r"tie\.Need-(\S+)", sig)
+        if cycle and re.search(r": Measures ", sig):
+            m = re.search(r"(?m)= (.*)$", b.splitlines()[-1])
+            ps = d["params"][[p for p in d["params"] if p.endswith("::" + cycle)][0]]
+
+            def parameter(n):
+                i = n.group(0).count(".1")
+                return "l." + ps[i]
+
+            body = re.sub(r"(?<![\w.])a((?:\.1)*)(\.0)?(?![\w.]*\.[01])", parameter, m.group(1))
+            invariants.append(f"abbrev pub decreases-{cycle} : goal.decreases-{cycle}\ndecreases-{cycle} l = {body}\n")
+            continue
+        if cycle and re.search(r": ℕ → (In |\w+-lts\.Claims)", sig):
+            continue
+        m = re.search(r"(?:tie|\w+-lts)\.Need-(\S+)", sig)
         if m:
             tied += 1
             old = plain(m.group(1))
-            words = {old, plain(name), re.sub(r"^(overflow|nonzero)_", "", old), re.sub(r"^slice_bounds_", "part_", old)}
+            words = {old, plain(name), re.sub(rf"^{cycle}_", "", plain(name)), re.sub(r"^(overflow|nonzero)_", "", old), re.sub(r"^slice_bounds_", "part_", old)}
             at = [i for i, n in enumerate(needs) if plain(n[0]) == old] or [i for i, n in enumerate(needs) if plain(n[0]) in words]
             if not at and re.search(r"=\s*search rules\s*$", b.strip()):
                 continue
@@ -200,8 +224,10 @@ def turn(crate, folder, key, d):
             if re.search(rf"^{re.escape(name)}(?: \S+)* =\s*search rules\s*$", body.strip(), re.S):
                 continue
             chain = where.chain(place)
-            body = steps(body, chain, where.arms(place), said)
-            body = re.sub(rf"^{re.escape(name)} (\S+)(?: κs)? =", f"{new} \\1 =", body, flags=re.M)
+            body = steps(body, chain, where.arms(place), d["params"], said)
+            if cycle:
+                body = re.sub(r"c\.requires\.1(?=[.\s,)])", "c.requires", body)
+            body = re.sub(rf"^{re.escape(name)} ((?:t )?\S+)(?: κs)? =", f"{new} \\1 =", body, flags=re.M)
             comment = "".join(l + "\n" for l in lines[:i])
             answers.append(f"{comment}pub {new} : goal.{new}\n{body}")
             continue
@@ -234,6 +260,8 @@ def main(argv):
         if wanted and f not in wanted:
             continue
         key = f"Rattle-{crate}-proofs.{f.replace(os.sep, '.')}.Lts"
+        if key not in names and "+" in f:
+            key += "-" + f.split("+")[1]
         if key not in names:
             print(f"{f}: not in the names")
             continue

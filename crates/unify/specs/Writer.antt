@@ -140,6 +140,7 @@ module _ (sy : List ℕ) (T : ℕ) (ts s : List ℕ) (cap : ℕ) (o : List ℕ) 
           let z = P.end in
           subst (λ (u : List ℕ). Wrote cap o w p e u) (sym c)
           (record { fits = λ k. (omega arith, P.text); short = λ k. absurd (omega arith); most = omega arith })
+      go (_ ∷ _) q r = elim r [ ]
 
 -- one more argument
 module _ (G : Graph) (s : List ℕ) (cap : ℕ) (o w : List ℕ) (p e f : ℕ) (xs : List ℕ) (a : ℕ) (us : List ℕ) where

@@ -9,13 +9,13 @@ use Rattle.unify.proofs.finite.Goals as goal
 pub loop-v-init : goal.loop-v-init
 loop-v-init c =
     let a = c.args in
-    (omega arith, omega arith, c.clear.auto.0 ∙ c.requires.1.1.0, far_start (graph a.symbols.now (facts a.toks a.a.now a.b.now)) a.rep.now _ _ _ (sym (facts_length a.toks a.a.now a.b.now c.requires.0)) refl c.clear.ensures)
+    (omega arith, omega arith, c.clear.auto.marks ∙ c.requires.1.1.0, far_start (graph a.symbols.now (facts a.toks a.a.now a.b.now)) a.rep.now _ _ _ (sym (facts_length a.toks a.a.now a.b.now c.requires.0)) refl c.clear.ensures)
 
 pub inside-requires : goal.inside-requires
 inside-requires c = (c.requires.0, (c.requires.1.0, (c.loop-v.invariant.2, (c.requires.1.1.1, (omega (arith, c.loop-v-test.true), c.loop-v.invariant.3.marked)))))
 
 pub shape_of-marks-then-inside : goal.shape_of-marks-then-inside
-shape_of-marks-then-inside c = c.inside.auto.1.1.1.1.1.0 ∙ c.loop-v.invariant.2 ∙ sym c.requires.1.1.0
+shape_of-marks-then-inside c = c.inside.auto.marks ∙ c.loop-v.invariant.2 ∙ sym c.requires.1.1.0
 
 pub returns-then-inside : goal.returns-then-inside
 returns-then-inside c = let a = c.args in seen_cycle (graph a.symbols.now (facts a.toks a.a.now a.b.now)) a.rep.now _ _ c.inside.result c.if-inside.true c.inside.ensures
@@ -25,7 +25,7 @@ loop-v-preserved c =
     let a = c.args in (
       omega (arith, c.loop-v.invariant.0),
       omega (arith, c.loop-v-test.true),
-      c.inside.auto.1.1.1.1.1.0 ∙ c.loop-v.invariant.2,
+      c.inside.auto.marks ∙ c.loop-v.invariant.2,
       far_next (graph a.symbols.now (facts a.toks a.a.now a.b.now)) a.rep.now c.loop-v.marks _ c.loop-v.v c.inside.result c.if-inside.false c.loop-v.invariant.3 c.inside.ensures,
     )
 

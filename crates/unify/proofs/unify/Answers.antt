@@ -13,24 +13,24 @@ returns-then-apart c = let a = c.args in apart_never (graph a.symbols.now (facts
 pub merge-requires : goal.merge-requires
 merge-requires c =
     let a = c.args in
-    (c.requires.0, (c.fresh.auto.0 ∙ c.requires.1.0, (start_down (graph a.symbols.now (facts a.toks a.a.now a.b.now)) 0 0 _ c.fresh.ensures, (c.before.before.before.before.before.before.Node-at.ensures.1, c.node_at-j.ensures.1))))
+    (c.requires.0, (c.fresh.auto.rep ∙ c.requires.1.0, (start_down (graph a.symbols.now (facts a.toks a.a.now a.b.now)) 0 0 _ c.fresh.ensures, (c.node_at-i.ensures.1, c.node_at-j.ensures.1))))
 
 pub returns-then-not-merge : goal.returns-then-not-merge
 returns-then-not-merge c =
     let a = c.args in
-    never_at (graph a.symbols.now (facts a.toks a.a.now a.b.now)) _ _ (node (facts a.toks a.a.now a.b.now) 0) (node (facts a.toks a.a.now a.b.now) (a.toks + a.at)) c.before.before.before.before.before.before.before.before.before.before.Node-at.ensures.0 c.node_at-j.ensures.0 (whole_clash a.symbols.now a.toks (facts a.toks a.a.now a.b.now) _ _ _ _ (facts_length a.toks a.a.now a.b.now c.requires.0) (c.merge.auto.1.1.1.1.0 ∙ c.fresh.auto.0 ∙ c.requires.1.0) c.fresh.ensures c.merge.result c.if-not-merge.true-raw c.merge.ensures)
+    never_at (graph a.symbols.now (facts a.toks a.a.now a.b.now)) _ _ (node (facts a.toks a.a.now a.b.now) 0) (node (facts a.toks a.a.now a.b.now) (a.toks + a.at)) c.node_at-i.ensures.0 c.node_at-j.ensures.0 (whole_clash a.symbols.now a.toks (facts a.toks a.a.now a.b.now) _ _ _ _ (facts_length a.toks a.a.now a.b.now c.requires.0) (c.merge.auto.rep ∙ c.fresh.auto.rep ∙ c.requires.1.0) c.fresh.ensures c.merge.result c.if-not-merge.true-raw c.merge.ensures)
 
 pub finite-requires : goal.finite-requires
 finite-requires c =
     let a = c.args in
-    (c.requires.0, ((c.merge.auto.1.1.1.1.0 ∙ c.fresh.auto.0 ∙ c.requires.1.0), (c.requires.1.1.0, whole_down a.symbols.now a.toks (facts a.toks a.a.now a.b.now) _ _ _ _ (facts_length a.toks a.a.now a.b.now c.requires.0) (c.merge.auto.1.1.1.1.0 ∙ c.fresh.auto.0 ∙ c.requires.1.0) c.fresh.ensures c.merge.result c.if-not-merge.false-raw c.merge.ensures)))
+    (c.requires.0, ((c.merge.auto.rep ∙ c.fresh.auto.rep ∙ c.requires.1.0), (c.requires.1.1.0, whole_down a.symbols.now a.toks (facts a.toks a.a.now a.b.now) _ _ _ _ (facts_length a.toks a.a.now a.b.now c.requires.0) (c.merge.auto.rep ∙ c.fresh.auto.rep ∙ c.requires.1.0) c.fresh.ensures c.merge.result c.if-not-merge.false-raw c.merge.ensures)))
 
 pub returns-then-not-finite : goal.returns-then-not-finite
 returns-then-not-finite c =
     let a = c.args in
-    never_at (graph a.symbols.now (facts a.toks a.a.now a.b.now)) _ _ (node (facts a.toks a.a.now a.b.now) 0) (node (facts a.toks a.a.now a.b.now) (a.toks + a.at)) c.before.before.before.before.before.before.before.before.before.before.before.before.before.before.before.before.Node-at.ensures.0 c.node_at-j.ensures.0 (whole_cycle a.symbols.now a.toks (facts a.toks a.a.now a.b.now) _ _ _ _ (facts_length a.toks a.a.now a.b.now c.requires.0) (c.merge.auto.1.1.1.1.0 ∙ c.fresh.auto.0 ∙ c.requires.1.0) c.fresh.ensures c.merge.result c.if-not-merge.false-raw c.merge.ensures c.finite.result c.if-not-finite.true-raw c.finite.ensures)
+    never_at (graph a.symbols.now (facts a.toks a.a.now a.b.now)) _ _ (node (facts a.toks a.a.now a.b.now) 0) (node (facts a.toks a.a.now a.b.now) (a.toks + a.at)) c.node_at-i.ensures.0 c.node_at-j.ensures.0 (whole_cycle a.symbols.now a.toks (facts a.toks a.a.now a.b.now) _ _ _ _ (facts_length a.toks a.a.now a.b.now c.requires.0) (c.merge.auto.rep ∙ c.fresh.auto.rep ∙ c.requires.1.0) c.fresh.ensures c.merge.result c.if-not-merge.false-raw c.merge.ensures c.finite.result c.if-not-finite.true-raw c.finite.ensures)
 
 pub returns : goal.returns
 returns c =
     let a = c.args in
-    (refl, solved_at (graph a.symbols.now (facts a.toks a.a.now a.b.now)) _ _ _ (node (facts a.toks a.a.now a.b.now) 0) (node (facts a.toks a.a.now a.b.now) (a.toks + a.at)) c.before.before.before.before.before.before.before.before.before.before.before.before.before.before.before.before.Node-at.ensures.0 c.node_at-j.ensures.0 (whole a.symbols.now a.toks (facts a.toks a.a.now a.b.now) _ _ _ _ (facts_length a.toks a.a.now a.b.now c.requires.0) (c.merge.auto.1.1.1.1.0 ∙ c.fresh.auto.0 ∙ c.requires.1.0) c.fresh.ensures c.merge.result c.if-not-merge.false-raw c.merge.ensures c.finite.result c.if-not-finite.false-raw c.finite.ensures))
+    (refl, solved_at (graph a.symbols.now (facts a.toks a.a.now a.b.now)) _ _ _ (node (facts a.toks a.a.now a.b.now) 0) (node (facts a.toks a.a.now a.b.now) (a.toks + a.at)) c.node_at-i.ensures.0 c.node_at-j.ensures.0 (whole a.symbols.now a.toks (facts a.toks a.a.now a.b.now) _ _ _ _ (facts_length a.toks a.a.now a.b.now c.requires.0) (c.merge.auto.rep ∙ c.fresh.auto.rep ∙ c.requires.1.0) c.fresh.ensures c.merge.result c.if-not-merge.false-raw c.merge.ensures c.finite.result c.if-not-finite.false-raw c.finite.ensures))
