@@ -35,10 +35,10 @@ loop-j-preserved-then-not-may_match t c =
     (way_other a.symbols.now a.r.now a.q.now a.k a.used a.binds c.hypothesis-hyp.result.now c.tokens-text.result.now c.hypothesis-hyp.ensures c.tokens-text.ensures l.j l.at l.invariant.0.place c.may_match.ensures c.if-not-may_match.true-raw)
 
 pub slice_bounds-match_at-end : goal.slice_bounds-match_at-end
-slice_bounds-match_at-end t c = omega (arith, c.before.before.before.before.before.before.before.before.before.before.before.before.before.before.before.before.before.well-formed)
+slice_bounds-match_at-end t c = omega (arith, c.before.before.before.before.before.before.before.before.before.before.before.before.before.before.before.before.before.well_formed)
 
 pub match_at-requires : goal.match_at-requires
-match_at-requires t c = (omega arith, (omega arith, omega (arith, c.before.before.before.before.before.before.before.before.before.before.before.before.before.before.before.before.before.well-formed)))
+match_at-requires t c = (omega arith, (omega arith, omega (arith, c.before.before.before.before.before.before.before.before.before.before.before.before.before.before.before.before.before.well_formed)))
 
 pub loop-j-preserved-then-not-match_at : goal.loop-j-preserved-then-not-match_at
 loop-j-preserved-then-not-match_at t c =
