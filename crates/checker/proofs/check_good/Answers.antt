@@ -18,7 +18,7 @@ first_bad_step-requires c =
     let a = c.args in
     let p = c.requires in
     let k = counted a.hyps a.toks a.most (length a.steps.now) (says_yes c.steps_length.ensures c.if-not-steps_length.false-raw) in
-    (p.0.0, omega arith)
+    (p.hyps_bound.0, omega arith)
 
 pub ends-requires : goal.ends-requires
 ends-requires c =
@@ -26,7 +26,7 @@ ends-requires c =
     let pre' = c.requires in
     let steps-length' = c.steps_length in
     let if1' = c.if-not-steps_length in
-    (pre'.0.0, last_inside a.hyps a.toks a.most (length a.steps.now) (says_yes steps-length'.ensures if1'.false-raw))
+    (pre'.hyps_bound.0, last_inside a.hyps a.toks a.most (length a.steps.now) (says_yes steps-length'.ensures if1'.false-raw))
 
 pub returns-then-not-ends : goal.returns-then-not-ends
 returns-then-not-ends c =
@@ -35,11 +35,11 @@ returns-then-not-ends c =
     let steps-length' = c.steps_length in
     let if1' = c.if-not-steps_length in
     let first-bad-step' = c.first_bad_step in
-    let enum-told' = c.enum_told-1 in
+    let told' = c.in-Nothing in
     let ends' = c.ends in
     let if2' = c.if-not-ends in
     let o = first_bad_bytes a.symbols.now a.hyps a.toks (length a.rules.now / (a.toks + 8)) a.rules.now a.steps.now 0 0 (length a.steps.now / (4 + 2 * a.hyps + a.toks)) in
-    check_end a.hyps a.toks a.most a.symbols.now a.rules.now a.query.now a.steps.now pre'.1 (says_yes steps-length'.ensures if1'.false-raw) (found_nothing o first-bad-step'.ensures enum-told'.given.1) (says_no ends'.ensures if2'.true-raw)
+    check_end a.hyps a.toks a.most a.symbols.now a.rules.now a.query.now a.steps.now pre'.good_input (says_yes steps-length'.ensures if1'.false-raw) (found_nothing o first-bad-step'.ensures told'.is) (says_no ends'.ensures if2'.true-raw)
 
 pub returns-in-At : goal.returns-in-At
 returns-in-At c =
@@ -47,10 +47,10 @@ returns-in-At c =
     let pre' = c.requires in
     let steps-length' = c.steps_length in
     let if1' = c.if-not-steps_length in
-    let i' = c.i-1 in
+    let i' = c.in-At in
     let first-bad-step' = c.first_bad_step in
     let o = first_bad_bytes a.symbols.now a.hyps a.toks (length a.rules.now / (a.toks + 8)) a.rules.now a.steps.now 0 0 (length a.steps.now / (4 + 2 * a.hyps + a.toks)) in
-    check_step a.hyps a.toks a.most a.symbols.now a.rules.now a.query.now a.steps.now pre'.1 (says_yes steps-length'.ensures if1'.false-raw) i'.given.0.0 (found_at o first-bad-step'.ensures i'.given.1)
+    check_step a.hyps a.toks a.most a.symbols.now a.rules.now a.query.now a.steps.now pre'.good_input (says_yes steps-length'.ensures if1'.false-raw) i'.i (found_at o first-bad-step'.ensures i'.is)
 
 pub returns-else-not-ends : goal.returns-else-not-ends
 returns-else-not-ends c =
@@ -59,8 +59,8 @@ returns-else-not-ends c =
     let steps-length' = c.steps_length in
     let if1' = c.if-not-steps_length in
     let first-bad-step' = c.first_bad_step in
-    let enum-told' = c.enum_told-1 in
+    let told' = c.in-Nothing in
     let ends' = c.ends in
     let if2' = c.if-not-ends in
     let o = first_bad_bytes a.symbols.now a.hyps a.toks (length a.rules.now / (a.toks + 8)) a.rules.now a.steps.now 0 0 (length a.steps.now / (4 + 2 * a.hyps + a.toks)) in
-    check_accepts a.hyps a.toks a.most a.symbols.now a.rules.now a.query.now a.steps.now pre'.1 (says_yes steps-length'.ensures if1'.false-raw) (found_nothing o first-bad-step'.ensures enum-told'.given.1) (says_yes ends'.ensures if2'.false-raw)
+    check_accepts a.hyps a.toks a.most a.symbols.now a.rules.now a.query.now a.steps.now pre'.good_input (says_yes steps-length'.ensures if1'.false-raw) (found_nothing o first-bad-step'.ensures told'.is) (says_yes ends'.ensures if2'.false-raw)

@@ -5,19 +5,19 @@ use Rattle.checker.proofs.AnswerCases.{check_refused, check_judged}
 use Rattle.checker.proofs.check_steps.Goals as goal
 
 pub check_good-requires : goal.check_good-requires
-check_good-requires c = ((omega arith, omega arith), record { vars = 32; few = omega arith; good = sym c.input.ensures ∙ c.in-Good.is })
+check_good-requires c = record { hyps_bound = (omega arith, omega arith); good_input = record { vars = 32; few = omega arith; good = sym c.input.ensures ∙ c.in-Good.is } }
 
 pub returns-in-Bad : goal.returns-in-Bad
 returns-in-Bad c =
     let a = c.args in
-    let r' = c.r-1 in
+    let r' = c.in-Bad in
     let input' = c.input in
-    check_refused 8 120 32 256 a.symbols.now a.rules.now a.query.now a.steps.now r'.given.0.0 (sym input'.ensures ∙ r'.given.1)
+    check_refused 8 120 32 256 a.symbols.now a.rules.now a.query.now a.steps.now r'.r (sym input'.ensures ∙ r'.is)
 
 pub returns-in-Good : goal.returns-in-Good
 returns-in-Good c =
     let a = c.args in
     let check-good' = c.check_good in
     let input' = c.input in
-    let enum-told' = c.enum_told-1 in
-    check-good'.ensures ∙ check_judged 8 120 32 256 a.symbols.now a.rules.now a.query.now a.steps.now (sym input'.ensures ∙ enum-told'.given.1)
+    let told' = c.in-Good in
+    check-good'.ensures ∙ check_judged 8 120 32 256 a.symbols.now a.rules.now a.query.now a.steps.now (sym input'.ensures ∙ told'.is)

@@ -22,7 +22,7 @@ step_good-requires c =
     let l = c.loop-i in
     let p = c.requires in
     let z = step_place l.i (4 + 2 * a.hyps + a.toks) (length a.steps.now) c.loop-i-test.true in
-    (p.0, ((p.1, omega arith), omega arith))
+    record { hyps_bound = p.0; steps_len_bound = (p.1, omega arith); toks_in_bounds = omega arith }
 
 pub returns-then-not-step_good : goal.returns-then-not-step_good
 returns-then-not-step_good c =

@@ -21,7 +21,7 @@ overflow_mul-two c =
     let a = c.args in
     let two' = c.two in
     let pre' = c.requires in
-    omega (arith, rule_place two'.result a.toks two'.ensures.1 pre'.0.1)
+    omega (arith, rule_place two'.result a.toks two'.ensures.1 pre'.hyps_bound.1)
 
 pub follows-requires : goal.follows-requires
 follows-requires c =
@@ -32,7 +32,7 @@ follows-requires c =
     let two' = c.two in
     let part2' = c.part in
     let s = rule_short (a.toks + 8) (two (drop a.at a.steps.now) 0) a.rules.now tokens'.result.now (rule_is a.symbols.now a.hyps a.toks a.count a.rules.now a.steps.now a.i a.at part'.result.now part'.ensures two'.result two'.ensures.0 part2'.ensures tokens'.ensures) in
-    ((omega arith, p.1.0.1), ((p.1.0.0, omega arith), omega arith))
+    record { place_le_size = (omega arith, p.steps_len_bound.1); steps_len_bound = (p.steps_len_bound.0, omega arith); place_in_bounds = omega arith }
 
 pub returns : goal.returns
 returns c =
