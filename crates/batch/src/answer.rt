@@ -4,8 +4,8 @@ ghost use Rattle.batch.specs.Lines.{Adds, Pair};
 ghost use Rattle.checker.specs.Answers.{checked_number, checked_place};
 
 use checker::{Checked, checked_number, checked_place};
-use libc::STDOUT_FILENO;
 use records::parts::front;
+use std::io::{Result, Write};
 
 // Puts bytes into a line from a place on. Where do they end?
 fn put(line: &mut [u8], at: usize, bytes: &[u8]) -> usize
@@ -13,8 +13,9 @@ fn put(line: &mut [u8], at: usize, bytes: &[u8]) -> usize
     ensures value { result ≡ at + length bytes.now }
     ensures line_after { take result line.new ≡ take at line.old ++ bytes.now }
 {
-    let n = line.len();
-    at + bytes::copy(bytes, &mut line[at..n])
+    let end = at + bytes.len();
+    line[at..end].copy_from_slice(bytes);
+    end
 }
 
 // Puts a number in decimal into a line from a place on, and a last byte. Where do they end?
@@ -40,14 +41,15 @@ fn put_check(line: &mut [u8], c: Checked) -> usize
 }
 
 // Writes the line that says that a case is bad. There is no more to read.
-pub fn bad_case() -> bool {
-    io::write_all(STDOUT_FILENO, b"bad case\n");
-    false
+pub fn bad_case<W: Write>(out: &mut W) -> Result<bool> {
+    out.write_all(b"bad case\n")?;
+    Ok(false)
 }
 
-// Writes the line that answers a check. Is it written?
-pub fn check_line(c: Checked) -> bool {
+// Writes the line that answers a check. There may be more to read.
+pub fn check_line<W: Write>(out: &mut W, c: Checked) -> Result<bool> {
     let mut line = [0u8; 42];
     let end = put_check(&mut line, c);
-    io::write_all(STDOUT_FILENO, front(&line, end))
+    out.write_all(front(&line, end))?;
+    Ok(true)
 }

@@ -1,9 +1,9 @@
 // The first 25 bytes of a case: one for its kind, then six numbers of four bytes, low byte first.
-ghost use Rattle.std.specs.Prelude.{◌≡◌, ◌+◌, ◌≤◌};
+ghost use Rattle.std.specs.Prelude.{◌≡◌, ◌+◌, ◌≤◌, length, IfOk};
 ghost use Rattle.batch.specs.Heads.{number_at, within, run_head, check_head, tables_head, head_of};
 
-use libc::STDIN_FILENO;
 use records::parts::wide;
+use std::io::{Read, Result};
 
 // The most bytes of a symbol table.
 const SYMBOLS: usize = 4096;
@@ -21,7 +21,7 @@ const TABLE: usize = 70000;
 const STEPS: usize = 40000;
 
 // The lengths in bytes of the three tables of a case.
-#[derive(Drop)]
+#[derive(Clone, Copy)]
 pub struct Tables {
     pub symbols: usize,
     pub rules: usize,
@@ -29,7 +29,7 @@ pub struct Tables {
 }
 
 // The lengths in bytes of the three buffers that a run is lent.
-#[derive(Drop)]
+#[derive(Clone, Copy)]
 pub struct Room {
     pub rules: usize,
     pub goals: usize,
@@ -37,7 +37,7 @@ pub struct Room {
 }
 
 // What stands next in the stream: its end, what no case starts with, a run, or a check with the length of its step list.
-#[derive(Drop)]
+#[derive(Clone, Copy)]
 pub enum Head {
     End,
     Bad,
@@ -121,15 +121,30 @@ fn head_of(kind: u8, s: &[u8; 24]) -> Head
     tables_head(kind, t, number(s, 12), number(s, 16), number(s, 20))
 }
 
+// Reads until a buffer is full or the input ends. How many bytes came?
+pub fn read_full<R: Read>(input: &mut R, buf: &mut [u8]) -> Result<usize>
+    ensures { IfOk result (λ n. n ≤ length buf.new) }
+{
+    let mut done = 0;
+    while done < buf.len() {
+        let n = input.read(&mut buf[done..])?;
+        if n == 0 {
+            break;
+        }
+        done += n;
+    }
+    Ok(done)
+}
+
 // Reads the head of the next case.
-pub fn read_head() -> Head {
+pub fn read_head<R: Read>(input: &mut R) -> Result<Head> {
     let mut kind = [0u8; 1];
-    if io::read_full(STDIN_FILENO, &mut kind) == 0 {
-        return Head::End;
+    if read_full(input, &mut kind)? == 0 {
+        return Ok(Head::End);
     }
     let mut numbers = [0u8; 24];
-    if io::read_full(STDIN_FILENO, &mut numbers) < 24 {
-        return Head::Bad;
+    if read_full(input, &mut numbers)? < 24 {
+        return Ok(Head::Bad);
     }
-    head_of(records::parts::byte_at(&kind, 0), &numbers)
+    Ok(head_of(records::parts::byte_at(&kind, 0), &numbers))
 }

@@ -4,35 +4,61 @@
 use answer::bad_case;
 use cases::{check_case, run_case};
 use head::{Head, read_head};
+use std::io::{Read, Result, Write};
 
 mod answer; // answer.rt: the lines that are written
 mod cases; // cases.rt: the tables and lists of a case, and the call that answers it
 mod head; // head.rt: what stands first in a case, its kind and its lengths
 
 // Reads the next case and answers it. Is there more to read?
-fn next_case(symbols: &mut [u8], rules: &mut [u8], query: &mut [u8], steps: &mut [u8]) -> bool {
-    let h = read_head();
+fn next_case<R: Read, W: Write>(
+    input: &mut R,
+    out: &mut W,
+    symbols: &mut [u8],
+    rules: &mut [u8],
+    query: &mut [u8],
+    steps: &mut [u8],
+) -> Result<bool> {
+    let h = read_head(input)?;
     match h {
-        Head::End => false,
-        Head::Bad => bad_case(),
-        Head::Run(t, room) => run_case(t, room, symbols, rules, query),
-        Head::Check(t, n) => check_case(t, n, symbols, rules, query, steps),
+        Head::End => Ok(false),
+        Head::Bad => bad_case(out),
+        Head::Run(t, room) => run_case(input, out, t, room, symbols, rules, query),
+        Head::Check(t, n) => check_case(input, out, t, n, symbols, rules, query, steps),
     }
 }
 
-// Answers case after case. Nothing says that a stream ends, so the turns count down from a number that none uses up.
-fn all_cases(symbols: &mut [u8], rules: &mut [u8], query: &mut [u8], steps: &mut [u8]) {
-    let mut turns = u64::MAX;
-    while turns > 0 && next_case(symbols, rules, query, steps) {
-        turns -= 1;
+// Answers case after case. Nothing says that a stream ends, so the turns are counted up to a number that none uses up.
+fn all_cases<R: Read, W: Write>(
+    input: &mut R,
+    out: &mut W,
+    symbols: &mut [u8],
+    rules: &mut [u8],
+    query: &mut [u8],
+    steps: &mut [u8],
+) -> Result<()> {
+    for _ in 0..u64::MAX {
+        if !next_case(input, out, symbols, rules, query, steps)? {
+            break;
+        }
     }
+    Ok(())
 }
 
 // Lends the room for the largest case.
-fn main() {
+fn main(rt: HostRuntime) -> Result<()> {
     let mut symbols = [0u8; 4096];
     let mut rules = [0u8; 40960];
     let mut query = [0u8; 4096];
     let mut steps = [0u8; 40000];
-    all_cases(&mut symbols, &mut rules, &mut query, &mut steps);
+    let mut input = rt.reader();
+    let mut out = std::io::writer(&rt);
+    all_cases(
+        &mut input,
+        &mut out,
+        &mut symbols,
+        &mut rules,
+        &mut query,
+        &mut steps,
+    )
 }

@@ -24,7 +24,7 @@ const VARS: usize = 32;
 const MOST: usize = 256;
 
 // The checker's answer: accepted; the input is refused; the list has a wrong length; a bad step; the last fact is not the query.
-#[derive(Drop)]
+#[derive(Clone, Copy)]
 pub enum Checked {
     Accepted,
     Refused(Refusal),

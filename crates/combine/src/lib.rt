@@ -21,21 +21,21 @@ use terms::{fact_start, span, with};
 use unify::{node_at, write};
 
 // Where the text of what is kept ends, and how many hypotheses are kept.
-#[derive(Drop)]
+#[derive(Clone, Copy)]
 pub struct State {
     pub end: usize,
     pub count: usize,
 }
 
 // One fact more went in, or the rule is too large.
-#[derive(Drop)]
+#[derive(Clone, Copy)]
 pub enum Added {
     Went(State),
     TooLarge,
 }
 
 // The set of the numbers given, or no number was left.
-#[derive(Drop)]
+#[derive(Clone, Copy)]
 pub enum Numbering {
     Is(u32),
     Full,

@@ -10,28 +10,28 @@ pub mod symbols; // symbols.rt: the symbol table
 pub mod tables; // tables.rt: which table of an input is refused
 
 // What is wrong with a table: its length or count, or the first bad record.
-#[derive(Drop)]
+#[derive(Clone, Copy)]
 pub enum Fault {
     Length,
     Record(usize),
 }
 
 // Which table is refused, and why.
-#[derive(Drop)]
+#[derive(Clone, Copy)]
 pub enum Refusal {
     Symbols(Fault),
     Rules(Fault),
     Query(Fault),
 }
 
-#[derive(Drop)]
+#[derive(Clone, Copy)]
 pub enum Input {
     Good,
     Bad(Refusal),
 }
 
 // The number of the first bad record, if there is one.
-#[derive(Drop)]
+#[derive(Clone, Copy)]
 pub enum Found {
     At(usize),
     Nothing,

@@ -14,7 +14,7 @@ use records::parts::wide;
 use records::symbols::arity;
 
 // Whether two facts unify; the place of the second goes with the answer.
-#[derive(Drop)]
+#[derive(Clone, Copy)]
 pub enum Unified {
     Yes(usize),
     No,
