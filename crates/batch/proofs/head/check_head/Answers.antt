@@ -1,0 +1,12 @@
+-- `batch::head::check_head` meets its contract. Assumes nothing.
+use Rattle.records.proofs.Laws.{says_no, says_yes}
+use Rattle.batch.specs.Heads.{check_head}
+use Rattle.batch.proofs.head.check_head.Goals as goal
+
+pub returns-then-not-within : goal.returns-then-not-within
+unfolding check_head
+returns-then-not-within c = rw (says_no c.within.ensures c.if-not-within.true-raw, check_head)
+
+pub returns : goal.returns
+unfolding check_head
+returns c = rw (says_yes c.within.ensures c.if-not-within.false-raw, check_head)
