@@ -1,17 +1,17 @@
 -- What the checker's answer on bytes means: accepted exactly where the input is good, every step has its form and follows, and the last concludes the query. Assumes nothing.
-use Prim.Native.Nat.{ℕ, zero, suc, ◌+◌, ◌-◌, ◌*◌, ◌/◌, ◌%◌, ◌≤◌, ◌<◌}
-use Rattle.std.proofs.Common.{arith, ap, ap₂, ◌∙◌, subst, sym}
-use Rattle.std.specs.Prelude.{Bool, ◌↔◌, length, take, drop, get_or}
+use Prim.Native.Nat.{ℕ, zero, suc, ◌+◌, ◌/◌}
+use Rattle.std.proofs.Common.{subst}
+use Rattle.std.specs.Prelude.{Bool, ◌↔◌, length, take, drop}
 use Rattle.std.proofs.Math.Bool.{true, false}
 use Rattle.std.proofs.Math.Option.{Option, none, some}
 use mathlib.Core.List.{List, [], ◌∷◌, ◌++◌}
 use Rattle.std.proofs.Math.Path.{◌≡◌, refl}
-use Rattle.model.specs.Term.{Term, both}
+use Rattle.model.specs.Term.{both}
 use Rattle.model.specs.Rule.{Rule}
 use Rattle.model.specs.Write.{Step}
 use Rattle.model.specs.Check.{good_step, ends}
 use Rattle.model.specs.Derive.{Closed, Input as InTable, Derives}
-use Rattle.theory.specs.Basics.{true≢false, no_confusion, both_true, true_both}
+use Rattle.theory.specs.Basics.{true≢false, no_confusion, true_both}
 use Rattle.theory.specs.Checks.{Follows, AllFollow, next, Last, GoodOk, good_ok, EndsOk, ends_ok, follow_derives}
 use Rattle.records.specs.Rules.{decode_rules, decode_query}
 use Rattle.records.specs.Input.{input_of}

@@ -1,8 +1,8 @@
 -- The test of the bytes of a list of steps is the judgement of the decoded steps, on every input that is not refused. Assumes nothing.
-use Prim.Native.Nat.{ℕ, zero, suc, ◌+◌, ◌-◌, ◌*◌, ◌/◌, ◌%◌, ◌≤◌, ◌<◌}
-use Rattle.std.proofs.Common.{add-zero, ◌∙◌, inl, inr, take-append-drop, drop-drop, ltb-true, leb-true, eqb-true, leb-false}
+use Prim.Native.Nat.{ℕ, zero, suc, ◌+◌, ◌*◌, ◌/◌, ◌≤◌, ◌<◌}
+use Rattle.std.proofs.Common.{add-zero, ◌∙◌, take-append-drop, drop-drop, ltb-true, leb-true, eqb-true, leb-false}
 use native.Mathlib.Omega.{arith}
-use Rattle.std.specs.Prelude.{Bool, ◌≡◌, ◌⊎◌, eqb, leb, ltb, length}
+use Rattle.std.specs.Prelude.{Bool, ◌≡◌, leb, length}
 use Rattle.std.proofs.Math.Bool.{true, false}
 use Rattle.std.proofs.Math.Option.{Option, none, some}
 use mathlib.Core.List.{List, [], ◌∷◌, ◌++◌}
@@ -11,20 +11,20 @@ use Rattle.std.proofs.Math.ListN.{take, drop, get_or}
 use Rattle.std.proofs.Math.Seq.{take-take, get_or-take, get_or-drop}
 use Rattle.model.specs.Term.{Term, both, closed, same}
 use Rattle.model.specs.Rule.{Rule}
-use Rattle.model.specs.Sign.{Signature, is_fact, are_facts, well_formed}
+use Rattle.model.specs.Sign.{is_fact, are_facts, well_formed}
 use Rattle.model.specs.Write.{Step, rule_at}
-use Rattle.model.specs.Check.{fact_at as stepFact, good_step, ends}
-use Rattle.theory.specs.Basics.{true≢false, no_confusion, both_true, true_both}
+use Rattle.model.specs.Check.{fact_at as fact_at_step, good_step, ends}
+use Rattle.theory.specs.Basics.{no_confusion, both_true}
 use Rattle.theory.specs.Tables.{length_snoc}
 use Rattle.theory.specs.Implies.{same_ok, SameOk}
 use Rattle.records.specs.Tokens.{leaves, leaves_all, terms, rule_of}
-use Rattle.records.specs.Symbols.{arity_of, signature, zeros, same_bytes}
-use Rattle.records.specs.Rules.{good_tokens, rule_good, tokens_of, decode_rule, decode_rules, decode_query}
-use Rattle.records.specs.TokenLaws.{EachVar, EachVars, Small, Numbered, each_weaken, numbered_small, leaves_front, leaves_terms, drop_take, terms_fact}
+use Rattle.records.specs.Symbols.{arity_of, signature, same_bytes}
+use Rattle.records.specs.Rules.{good_tokens, tokens_of, decode_rule, decode_rules, decode_query}
+use Rattle.records.specs.TokenLaws.{EachVar, Small, Numbered, each_weaken, numbered_small, leaves_front, leaves_terms, drop_take, terms_fact}
 use Rattle.records.specs.RuleLaws.{signature_agrees, Split, done, fact, good_terms, rule_good_lem, rule_at_good, length_decode_rules, decode_rules_at, numbered_closed, Accepted}
 use Rattle.matching.specs.FactLaws.{Facts, facts_of}
 use Rattle.matching.specs.MatchLaws.{At, Spine, fact_whole, same_bytes_refl, same_bytes_eq}
-use Rattle.checker.specs.Steps.{two, fact_place, step_tokens, slots, decode_step, decode_steps, form_good, first_bad_step}
+use Rattle.checker.specs.Steps.{two, fact_place, step_tokens, decode_step, decode_steps, form_good, first_bad_step}
 use Rattle.checker.specs.Follows.{follows_bytes, rule_tokens, first_bad_bytes}
 use Rattle.checker.specs.FollowLaws.{Placed, follows_ok}
 
@@ -148,19 +148,19 @@ module _ (h T v : ℕ) (v63 : v ≤ 63) (sy ru qu st : List ℕ) (A : Accepted h
       r.1 refl r.2 r.3 w.0.shut w.1 w.2
 
   -- one step more is in its place
-  fact_old : (ss : List Step) (x : Step) (u : ℕ) (f : Term) → stepFact ss u ≡ some f → stepFact (ss ++ (x ∷ [])) u ≡ some f
-  unfolding stepFact
+  fact_old : (ss : List Step) (x : Step) (u : ℕ) (f : Term) → fact_at_step ss u ≡ some f → fact_at_step (ss ++ (x ∷ [])) u ≡ some f
+  unfolding fact_at_step
   fact_old [] x u f e = no_confusion (cc)
   fact_old (s ∷ ss) x zero f e = e
   fact_old (s ∷ ss) x (suc u) f e = fact_old ss x u f e
 
-  fact_new : (ss : List Step) (x : Step) → stepFact (ss ++ (x ∷ [])) (length ss) ≡ some x.fact
-  unfolding stepFact
+  fact_new : (ss : List Step) (x : Step) → fact_at_step (ss ++ (x ∷ [])) (length ss) ≡ some x.fact
+  unfolding fact_at_step
   fact_new [] x = refl
   fact_new (s ∷ ss) x = fact_new ss x
 
-  fact_past : (ss : List Step) (x : Step) (u : ℕ) → suc (length ss) ≤ u → stepFact (ss ++ (x ∷ [])) u ≡ none
-  unfolding stepFact
+  fact_past : (ss : List Step) (x : Step) (u : ℕ) → suc (length ss) ≤ u → fact_at_step (ss ++ (x ∷ [])) u ≡ none
+  unfolding fact_at_step
   fact_past [] x zero l = absurd (omega arith)
   fact_past [] x (suc u) l = refl
   fact_past (s ∷ ss) x zero l = absurd (omega arith)
@@ -176,11 +176,11 @@ module _ (h T v : ℕ) (v63 : v ≤ 63) (sy ru qu st : List ℕ) (A : Accepted h
       w : OneFact sy (step_tokens h (step_at at)) (step_of at).fact × At' (at + fact_place h) (step_of at).fact × Spine' (step_of at).fact
       w = fact_at_lem at F
 
-      go : (u : ℕ) → u < suc i → (c : Bool) → leb i u ≡ c → (f : Term) × (stepFact (ss ++ (step_of at ∷ [])) u ≡ some f) × At' (u * Z + fact_place h) f × Spine' f
+      go : (u : ℕ) → u < suc i → (c : Bool) → leb i u ≡ c → (f : Term) × (fact_at_step (ss ++ (step_of at ∷ [])) u ≡ some f) × At' (u * Z + fact_place h) f × Spine' f
       go u k true q =
           let z : u ≡ i = omega (arith, leb-true i u q) in
           let y : at + fact_place h ≡ u * Z + fact_place h = ap (◌+ fact_place h) (e ∙ ap (λ (m : ℕ). m * Z) (sym z)) in
-          ((step_of at).fact, ap (stepFact (ss ++ (step_of at ∷ []))) (z ∙ sym l) ∙ fact_new ss (step_of at), subst (λ (m : ℕ). At' m (step_of at).fact) y w.1, w.2)
+          ((step_of at).fact, ap (fact_at_step (ss ++ (step_of at ∷ []))) (z ∙ sym l) ∙ fact_new ss (step_of at), subst (λ (m : ℕ). At' m (step_of at).fact) y w.1, w.2)
       go u k false q = let b = P.before u (leb-false i u q) in (b.0, fact_old ss (step_of at) u b.0 b.1, b.2, b.3)
 
   -- The first bad step by its bytes is the first bad one of the judgement.
@@ -198,7 +198,7 @@ module _ (h T v : ℕ) (v63 : v ≤ 63) (sy ru qu st : List ℕ) (A : Accepted h
       (sym (length_decode_rules sy (T + 8) n ru))
 
   pub first_bad_bytes_ok : (m : ℕ) → first_bad_bytes sy h T n ru st 0 0 m ≡ first_bad_step sy h T ru rs [] m st
-  unfolding stepFact
+  unfolding fact_at_step
   first_bad_bytes_ok m = bytes_ok m [] 0 0 refl (let z : 0 ≡ 0 * Z = omega arith in z) (record { before = λ u l. absurd (omega arith); after = λ u l. refl })
 
   -- ---- the end

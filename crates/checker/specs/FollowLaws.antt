@@ -1,33 +1,28 @@
 -- Testing the bytes of a step is the model's judgement of the decoded step. Assumes nothing.
-use Prim.Native.Nat.{ℕ, zero, suc, ◌+◌, ◌-◌, ◌*◌, ◌≤◌, ◌<◌}
-use Rattle.std.proofs.Common.{arith, add-zero, ap, ap₂, ◌∙◌, subst, ltb-true, ltb-false, drop_at}
-use Rattle.std.specs.Prelude.{Bool, ◌≡◌, ltb, length, take, drop, get_or, replicate}
+use Prim.Native.Nat.{ℕ, zero, suc, ◌+◌, ◌*◌, ◌≤◌, ◌<◌}
+use Rattle.std.proofs.Common.{arith, ◌∙◌, ltb-true, ltb-false}
+use Rattle.std.specs.Prelude.{Bool, ◌≡◌, ltb, length, get_or}
 use Rattle.std.proofs.Math.Bool.{true, false}
 use Rattle.std.proofs.Math.Option.{Option, none, some}
-use mathlib.Core.List.{List, [], ◌∷◌, ◌++◌, append_assoc}
+use mathlib.Core.List.{List, [], ◌∷◌}
 use Rattle.std.proofs.Math.Path.{refl, sym}
-use Rattle.std.proofs.lemmas.List.{length-replicate, get_or-replicate}
-use Rattle.model.specs.Term.{Term, both, closed, size, Bindings}
-use Rattle.model.specs.Rule.{Rule, lookup, match, size_all}
+use Rattle.model.specs.Term.{Term, both, closed, Bindings}
+use Rattle.model.specs.Rule.{Rule, match}
 use Rattle.model.specs.Write.{Step, rule_at}
-use Rattle.model.specs.Check.{fact_at as stepFact, facts_at, match_all, carries, follows_by, good_step}
-use Rattle.model.specs.Sign.{Signature, is_fact, are_facts}
-use Rattle.theory.specs.Basics.{true≢false, no_confusion, both_true, true_both}
-use Rattle.theory.specs.Mend.{is_fact_wants}
-use Rattle.theory.specs.Tables.{length_snoc}
-use Rattle.records.specs.Tokens.{leaves, leaves_all, span}
-use Rattle.records.specs.TokenLaws.{Agrees, EachVar, EachVars, Small, leaves_all_append, length_leaves_all, take_leaves, span_zero, span_fact_leaves, span_fact}
+use Rattle.model.specs.Check.{fact_at as fact_at_step, facts_at, match_all, carries, follows_by, good_step}
+use Rattle.model.specs.Sign.{Signature}
+use Rattle.records.specs.TokenLaws.{Agrees}
 use Rattle.terms.specs.Facts.{fact_at}
 use Rattle.matching.specs.Match.{matched, onward, unbound}
-use Rattle.matching.specs.FactLaws.{Facts, fnone, fmore, facts_of, unbound_means, fact_ok}
-use Rattle.matching.specs.MatchLaws.{Spine, Means, Result, At, spine_ok, fact_whole}
+use Rattle.matching.specs.FactLaws.{Facts, fmore, unbound_means, fact_ok}
+use Rattle.matching.specs.MatchLaws.{Spine, Means, At}
 use Rattle.checker.specs.Steps.{two, slots}
 use Rattle.checker.specs.Follows.{uses_matched, follows_bytes}
 
 -- the steps ss are those before step i, and their facts stand in the text
 pub record Placed (ar : ℕ → ℕ) (S : Signature) (agrees : Agrees ar S) (size place : ℕ) (st : List ℕ) (ss : List Step) (i : ℕ) : Type 0 where
-  pub before : (u : ℕ) → u < i → (f : Term) × (stepFact ss u ≡ some f) × At ar S agrees st (u * size + place) f × Spine ar S agrees 0 f
-  pub after : (u : ℕ) → i ≤ u → stepFact ss u ≡ none
+  pub before : (u : ℕ) → u < i → (f : Term) × (fact_at_step ss u ≡ some f) × At ar S agrees st (u * size + place) f × Spine ar S agrees 0 f
+  pub after : (u : ℕ) → i ≤ u → fact_at_step ss u ≡ none
 
 abbrev is : Option Bindings → Bool
 is none = false
@@ -69,7 +64,7 @@ module _ (ar : ℕ → ℕ) (S : Signature) (agrees : Agrees ar S) (size place :
             (c : Bool) → ltb u i ≡ c
             → ((b' : List ℕ) (β' : Bindings) → Means ar S agrees st b' β' → uses_matched ar size place rt st i s (suc k) n b' ≡ Uses hs (facts_at ss (slots s (suc k) n)) β')
             → elim c as (λ _. Bool) [ false ↦ false | true ↦ onward (matched ar (fact_at ar (suc k) rt) st (u * size + place) b) (uses_matched ar size place rt st i s (suc k) n) ]
-            ≡ Uses (h ∷ hs) (elim (stepFact ss u) [ none ↦ none | some f ↦ elim (facts_at ss (slots s (suc k) n)) [ none ↦ none | some fs ↦ some (f ∷ fs) ] ]) β
+            ≡ Uses (h ∷ hs) (elim (fact_at_step ss u) [ none ↦ none | some f ↦ elim (facts_at ss (slots s (suc k) n)) [ none ↦ none | some fs ↦ some (f ∷ fs) ] ]) β
         go false c rec = rw (P.after u (ltb-false u i c))
         go true c rec =
             let w = P.before u (ltb-true u i c) in

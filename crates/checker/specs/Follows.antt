@@ -1,5 +1,5 @@
 -- Whether a step follows, as the code tests it: the rule's facts one after another against the bytes of the steps. Assumes nothing.
-use Rattle.std.specs.Prelude.{ℕ, zero, suc, ◌+◌, ◌-◌, ◌*◌, ◌/◌, ◌%◌, Bool, true, false, List, [], ◌∷◌, ◌++◌, eqb, leb, ltb, length, take, drop, get_or, replicate}
+use Rattle.std.specs.Prelude.{ℕ, zero, suc, ◌+◌, ◌*◌, Bool, true, false, List, ltb, take, drop, get_or}
 use Rattle.std.proofs.Math.Option.{Option, none, some}
 use Rattle.model.specs.Term.{both}
 use Rattle.records.specs.Symbols.{arity_of}

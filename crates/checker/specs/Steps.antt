@@ -2,7 +2,7 @@
 -- A step of h slots and T tokens has 4 + 2 h + T bytes: rule number, count, tokens, h step numbers of two bytes, the fact.
 use Rattle.std.specs.Prelude.{ℕ, zero, suc, ◌+◌, ◌-◌, ◌*◌, ◌/◌, ◌%◌, Bool, true, false, List, [], ◌∷◌, ◌++◌, eqb, leb, ltb, length, take, drop, get_or}
 use Rattle.std.proofs.Math.Option.{Option, none, some}
-use Rattle.model.specs.Term.{Term, both, same}
+use Rattle.model.specs.Term.{Term, both}
 use Rattle.model.specs.Rule.{Rule}
 use Rattle.model.specs.Write.{Step}
 use Rattle.model.specs.Check.{good_step, ends}
@@ -10,7 +10,6 @@ use Rattle.records.specs.Symbols.{arity_of, zeros}
 use Rattle.records.specs.Tokens.{terms, rule_of}
 use Rattle.records.specs.Rules.{good_tokens, decode_rules, decode_query}
 use Rattle.records.specs.Input.{input_of}
-use Rattle.records.specs.declared.Input.{Input}
 use Rattle.records.specs.declared.Input.TheVariants.{Good, Bad}
 use Rattle.checker.specs.declared.Checked.{Checked}
 use Rattle.checker.specs.declared.Checked.TheVariants.{Accepted, Refused, Length, Step as BadStep, End}

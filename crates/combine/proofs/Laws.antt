@@ -1,12 +1,12 @@
 -- Laws of lists that the functions' proofs cite. Assumes nothing.
-use Prim.Native.Nat.{ℕ, zero, suc, ◌+◌, ◌*◌, ◌-◌, ◌≤◌, ◌<◌}
+use Prim.Native.Nat.{ℕ, ◌+◌, ◌<◌}
 use native.Mathlib.Omega.{arith}
 use native.Mathlib.Numerals.{add-one}
 use mathlib.Core.Bool.{Bool, true, false}
 use mathlib.Core.List.{List, [], ◌∷◌, ◌++◌}
-use mathlib.Core.Path.{◌≡◌, refl, ap, ap₂, ◌∙◌, sym, subst}
+use mathlib.Core.Path.{◌≡◌, refl, ap, ap₂, ◌∙◌, sym}
 use lib.Dec.{eqb}
-use lib.ListN.{length, take, drop, get_or, set, length-drop}
+use lib.ListN.{length, take, drop, get_or, length-drop}
 use lib.Seq.{take-suc, get_or-take, get_or-drop}
 use borrow.Author.Tests.{eqb-true, eqb-false}
 use Rattle.combine.specs.Copies.{Says, Copy}

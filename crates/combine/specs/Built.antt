@@ -1,6 +1,6 @@
 -- The text of the conclusion and the kept hypotheses as it grows fact by fact, and the laws that the code's proofs cite. Assumes nothing.
-use Rattle.std.specs.Prelude.{ℕ, zero, suc, ◌+◌, ◌*◌, ◌-◌, ◌≤◌, ◌<◌, Bool, ◌≡◌, refl, ◌⊎◌, take, drop, get_or, set}
-use Rattle.std.proofs.Common.{arith, ap₂, ◌∙◌, subst, inr, length-append, take_at, take-take, get_or-set_same, get_or-set_other}
+use Rattle.std.specs.Prelude.{ℕ, zero, suc, ◌+◌, ◌*◌, ◌-◌, ◌≤◌, ◌<◌, Bool, ◌≡◌, refl, ◌⊎◌, take, get_or, set}
+use Rattle.std.proofs.Common.{arith, ◌∙◌, subst, inr, length-append, take_at, take-take, get_or-set_same, get_or-set_other}
 use Rattle.std.proofs.Math.Bool.{true, false}
 use mathlib.Core.List.{List, [], ◌∷◌, ◌++◌, append_assoc, append-nil}
 use Rattle.std.proofs.Math.Path.{ap, sym}
@@ -8,14 +8,13 @@ use Rattle.std.proofs.Math.Logic.{inl}
 use Rattle.std.proofs.Math.ListN.{length}
 use Rattle.model.specs.Term.{Term, con, ◌·◌, size}
 use Rattle.model.specs.Rule.{among, firsts, size_all}
-use Rattle.theory.specs.Basics.{true≢false, no_confusion}
 use Rattle.records.specs.Tokens.{applied}
 use Rattle.records.specs.Symbols.{arity_of}
 use Rattle.unify.specs.Forest.{Down, find, find_le}
 use Rattle.unify.specs.Closure.{Every}
 use Rattle.unify.specs.Read.{Reads, rvar, rsym, ReadsAll, rnil, rcons}
 use Rattle.unify.specs.Inside.{Read}
-use Rattle.unify.specs.Nodes.{graph, node, node_in, tok, args_in, args_length}
+use Rattle.unify.specs.Nodes.{graph, tok, args_in, args_length}
 use Rattle.unify.specs.Facts.{facts, Given, facts_length}
 use Rattle.unify.specs.Writer.{codes, codes_all, codes_size, codes_all_append, Writes, Wrote, Asked}
 use Rattle.combine.specs.declared.State.{State}

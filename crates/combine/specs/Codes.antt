@@ -1,7 +1,7 @@
 -- The codes of terms that keep to the arities: which term a text begins with, its variables, and the tokens that it becomes. Assumes nothing.
-use Rattle.std.specs.Prelude.{ℕ, zero, suc, ◌+◌, ◌-◌, ◌≤◌, ◌<◌, Bool, true, false, List, [], ◌∷◌, ◌++◌, map, ◌≡◌, refl, ltb, length, take, drop, get_or}
+use Rattle.std.specs.Prelude.{ℕ, zero, suc, ◌+◌, ◌-◌, ◌≤◌, ◌<◌, true, false, List, [], ◌∷◌, ◌++◌, map, ◌≡◌, refl, ltb, length, take, drop, get_or}
 use Rattle.std.proofs.Common.{arith, append_assoc, ap, ap₂, ◌∙◌, sym, length-append, lt-ltb, le-ltb}
-use Rattle.model.specs.Term.{Term, var, con, ◌·◌, sub, size, vars}
+use Rattle.model.specs.Term.{Term, var, con, ◌·◌, sub, vars}
 use Rattle.model.specs.Rule.{place, vars_all, size_all}
 use Rattle.records.specs.Tokens.{leaves, leaves_all, applied}
 use Rattle.records.specs.Symbols.{arity_of}

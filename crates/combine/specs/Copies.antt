@@ -1,16 +1,15 @@
 -- Copies: what is kept of a list that grows at its end, and how a text shows whether a term is among those kept. Assumes nothing.
 use Prim.Native.Nat.{ℕ, zero, suc, ◌+◌, ◌-◌, ◌≤◌, ◌<◌}
 use native.Mathlib.Omega.{arith}
-use Rattle.std.proofs.Common.{add-zero, ap₂, ◌∙◌, subst, length-append, length-take, take-append-drop, take_at, drop_at, take-take}
+use Rattle.std.proofs.Common.{add-zero, ap₂, ◌∙◌, length-append, take-append-drop, take_at, drop_at, take-take}
 use Rattle.std.specs.Prelude.{Bool, ◌≡◌, drop}
 use Rattle.std.proofs.Math.Bool.{true, false}
-use mathlib.Core.List.{List, [], ◌∷◌, ◌++◌, map, append_assoc, append-nil}
+use mathlib.Core.List.{List, [], ◌∷◌, ◌++◌, append_assoc, append-nil}
 use Rattle.std.proofs.Math.Path.{refl, ap, sym}
 use Rattle.std.proofs.Math.ListN.{length, take, get_or}
-use Rattle.std.proofs.lemmas.List.{take-append-le, drop-append-le}
 use Rattle.model.specs.Term.{Term, same, size}
 use Rattle.model.specs.Rule.{among, firsts, size_all}
-use Rattle.theory.specs.Basics.{true≢false, no_confusion}
+use Rattle.theory.specs.Basics.{no_confusion}
 use Rattle.theory.specs.Implies.{same_ok, SameOk}
 use Rattle.records.specs.TokenLaws.{drop_take}
 use Rattle.unify.specs.Writer.{codes, codes_all, codes_size}

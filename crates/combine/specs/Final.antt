@@ -4,14 +4,14 @@ use native.Mathlib.Omega.{arith}
 use Rattle.std.proofs.Common.{add-zero, ◌∙◌, length-drop, drop-drop, take-add, eq-eqb, ne_eqb, eqb-true, leb-true, leb-false}
 use Rattle.std.specs.Prelude.{Bool, ◌≡◌, leb, length, take, get_or}
 use Rattle.std.proofs.Math.Bool.{true, false}
-use Rattle.std.proofs.Math.Option.{Option, none, some}
+use Rattle.std.proofs.Math.Option.{some}
 use mathlib.Core.List.{List, [], ◌∷◌, ◌++◌, map}
 use Rattle.std.proofs.Math.Path.{refl, ap, ap₂, sym, subst}
 use Rattle.std.proofs.Math.Dec.{eqb}
 use Rattle.std.proofs.Math.ListN.{drop}
 use Rattle.std.proofs.lemmas.List.{drop-append-le}
 use Rattle.std.proofs.lemmas.Bool.{eqb-false}
-use Rattle.model.specs.Term.{Term, var, con, ◌·◌, sub, size}
+use Rattle.model.specs.Term.{Term, var, sub, size}
 use Rattle.model.specs.Rule.{Rule, Limits, fits, nth, without, left, right, sub_rule, normal, drop_copies, renumber, vars_of, size_all, combine}
 use Rattle.model.specs.Sign.{Signature, is_fact, are_facts}
 use Rattle.theory.specs.Basics.{no_confusion, both_true}

@@ -1,19 +1,18 @@
 -- Variables numbered by first appearance: the numbers given so far as a set of digits, and the tokens written so far. Assumes nothing.
-use Rattle.std.specs.Prelude.{ℕ, zero, suc, ◌+◌, ◌*◌, ◌-◌, ◌^◌, ◌/◌, ◌%◌, ◌≤◌, ◌<◌, Bool, true, false, ◌≡◌, refl, eqb, ltb, length, take, get_or, set}
+use Rattle.std.specs.Prelude.{ℕ, zero, suc, ◌+◌, ◌*◌, ◌-◌, ◌^◌, ◌/◌, ◌%◌, ◌≤◌, ◌<◌, Bool, true, false, ◌≡◌, refl, eqb, length, take, get_or, set}
 use Rattle.std.proofs.Common.{arith, pow-suc, ap₂, ◌∙◌, sym, subst, pow_pos, length-append, take-append-drop, drop_of_length-le, get_or-set_same, get_or-set_other, drop-cons, length-take-le, get_or-take, take-suc, eqb-true}
 use mathlib.Core.List.{List, [], ◌∷◌, ◌++◌, map, append_assoc, append-nil}
 use Rattle.std.proofs.Math.Path.{ap}
 use Rattle.std.specs.Int.Bits.{bit_or, or_shifted_r}
 use Rattle.std.specs.Int.Count.{ones, ones-ones, under, count_trailing_zeros}
-use Rattle.std.proofs.Math.Pow.{pow-lt}
 use Rattle.std.proofs.Math.ListN.{drop}
 use Rattle.std.proofs.lemmas.List.{length-map, set_at}
 use Rattle.std.proofs.Math.Seq.{take-length}
 use Rattle.std.proofs.lemmas.Bool.{eqb-false}
 use Rattle.model.specs.Term.{elem, distinct}
 use Rattle.model.specs.Rule.{place}
-use Rattle.theory.specs.Basics.{true≢false, no_confusion}
-use Rattle.terms.specs.Vars.{held, with_var}
+use Rattle.theory.specs.Basics.{no_confusion}
+use Rattle.terms.specs.Vars.{with_var}
 use Rattle.terms.proofs.Sets.{held_yes}
 use Rattle.combine.specs.declared.Numbering.{Numbering}
 use Rattle.combine.specs.declared.Numbering.TheVariants.{Is, Full}
@@ -275,7 +274,7 @@ module _ (vs o old : List ℕ) (end i : ℕ) (le : end ≤ length o) (lr : end +
       (let z : i + 2 + 1 ≡ i + 1 + 2 = omega arith in z)
 
 pub tokens_start : (vs text old : List ℕ) → old ≡ tokens_to vs text 0 old
-tokens_start vs text old = sym (ap (◌++ drop 2 old) (append-nil (take 2 old)) ∙ take-append-drop 2 old)
+tokens_start vs _ old = sym (ap (◌++ drop 2 old) (append-nil (take 2 old)) ∙ take-append-drop 2 old)
 
 -- What the numbering of a text answers: the tokens are written, or there are too many variables.
 abbrev pub Numbered : List ℕ → ℕ → List ℕ → List ℕ → Bool → Type 0

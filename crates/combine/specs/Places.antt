@@ -1,7 +1,6 @@
 -- The nodes that one side gives: those of its hypotheses one after another, but for the one that is skipped. Assumes nothing.
-use Rattle.std.specs.Prelude.{ℕ, zero, suc, ◌+◌, ◌*◌, ◌-◌, ◌≤◌, ◌<◌, Bool, true, false, List, [], ◌∷◌, ◌++◌, ◌≡◌, refl, eqb, length, take, drop, get_or}
+use Rattle.std.specs.Prelude.{ℕ, zero, suc, ◌+◌, ◌-◌, ◌≤◌, ◌<◌, true, false, List, [], ◌∷◌, ◌++◌, ◌≡◌, eqb, drop}
 use Rattle.std.proofs.Common.{arith, append_assoc, append-nil, ap, ap₂, ◌∙◌, sym, subst, eq-eqb, ne_eqb}
-use Rattle.theory.specs.Basics.{no_confusion}
 use Rattle.records.specs.Tokens.{span}
 use Rattle.unify.specs.Nodes.{graph, node}
 use Rattle.unify.specs.Inside.{Read}

@@ -1,16 +1,16 @@
 -- The text of a rule becomes a record: whether it fits, and the bytes. Assumes nothing.
-use Rattle.std.specs.Prelude.{ℕ, zero, suc, ◌+◌, ◌*◌, ◌-◌, ◌≤◌, ◌<◌, Bool, true, false, not, ◌≡◌, refl, ◌⊎◌, leb, get_or}
+use Rattle.std.specs.Prelude.{ℕ, ◌+◌, ◌*◌, ◌-◌, ◌≤◌, ◌<◌, Bool, true, false, not, ◌≡◌, refl, ◌⊎◌, leb, get_or}
 use native.Mathlib.Omega.{arith}
 use mathlib.Core.List.{List, [], ◌∷◌, ◌++◌, map, append_assoc, append-nil}
 use Rattle.std.proofs.Math.Path.{ap, ap₂, sym, subst}
-use Rattle.std.proofs.Common.{◌∙◌, inl, inr, length-append, length-take, length-drop, take-append-drop, drop_of_length-le, drop_at, get_or-take, drop-drop, le-leb, leb-true, leb-false}
+use Rattle.std.proofs.Common.{◌∙◌, inl, inr, length-append, length-take, length-drop, take-append-drop, get_or-take, drop-drop, le-leb, leb-true, leb-false}
 use Rattle.std.proofs.Math.ListN.{length, take, drop, set, replicate, length-map, get_or-append, get_or-eq_default}
-use Rattle.std.proofs.lemmas.List.{length-replicate, get_or-replicate, replicate-append-replicate, take-append-le}
-use Rattle.std.proofs.Math.Seq.{take_at, length-take-le, drop-append-add, take-length}
+use Rattle.std.proofs.lemmas.List.{length-replicate, get_or-replicate, replicate-append-replicate}
+use Rattle.std.proofs.Math.Seq.{take_at, length-take-le, drop-append-add}
 use Rattle.std.proofs.lemmas.Bool.{lt-leb}
 use Rattle.model.specs.Term.{Term, var, con, ◌·◌, sub, size, distinct, vars}
-use Rattle.model.specs.Rule.{Rule, Limits, fits, firsts, drop_copies, renumber, sub_rule, vars_of, vars_all, place, size_all}
-use Rattle.theory.specs.Basics.{true≢false, no_confusion}
+use Rattle.model.specs.Rule.{Rule, Limits, fits, firsts, drop_copies, renumber, sub_rule, vars_of, vars_all, size_all}
+use Rattle.theory.specs.Basics.{no_confusion}
 use Rattle.records.specs.Tokens.{leaves_all, span}
 use Rattle.records.specs.Symbols.{arity_of}
 use Rattle.records.specs.Rules.{tokens_of}
@@ -18,9 +18,9 @@ use Rattle.records.specs.Work.{body}
 use Rattle.unify.specs.Nodes.{graph, node}
 use Rattle.unify.specs.Facts.{facts}
 use Rattle.unify.specs.Read.{ReadsAll}
-use Rattle.unify.specs.Writer.{codes, codes_all}
+use Rattle.unify.specs.Writer.{codes_all}
 use Rattle.combine.specs.declared.State.{State}
-use Rattle.combine.specs.Codes.{KeepAll, code_vars, token, numbers, all_vars_lem, all_tokens, all_low, all_size, every_at}
+use Rattle.combine.specs.Codes.{code_vars, token, numbers, all_vars_lem, all_tokens, all_low, every_at}
 use Rattle.combine.specs.declared.Added.{Added}
 use Rattle.combine.specs.declared.Added.TheVariants.{Went, TooLarge}
 use Rattle.combine.specs.Built.{Site, Built, Over, Outcome, over_more}

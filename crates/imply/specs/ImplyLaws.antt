@@ -1,36 +1,34 @@
 -- Implication on bytes is the model's test of the decoded rules. Assumes nothing.
-use Prim.Native.Nat.{ℕ, zero, suc, ◌+◌, ◌-◌, ◌*◌, ◌/◌, ◌%◌, ◌^◌, ◌≤◌, ◌<◌}
-use Rattle.std.proofs.Common.{add-zero, zero-add, pow-suc, arith, ◌∙◌, subst, inl, inr, get_or-append-add, eqb-true, eq-eqb, ne_eqb}
+use Prim.Native.Nat.{ℕ, zero, suc, ◌+◌, ◌*◌, ◌/◌, ◌%◌, ◌^◌, ◌≤◌, ◌<◌}
+use Rattle.std.proofs.Common.{add-zero, zero-add, pow-suc, arith, ◌∙◌, subst, get_or-append-add}
 use Rattle.std.proofs.Math.Nat.{div-div-eq-div-mul}
 use Rattle.std.proofs.Math.Bool.{Bool, true, false}
 use Rattle.std.proofs.Math.Option.{Option, none, some}
 use mathlib.Core.List.{List, [], ◌∷◌, ◌++◌, append-nil, append_assoc}
-use Rattle.std.specs.Prelude.{◌≡◌, ◌⊎◌, ◌≢◌, take, get_or}
+use Rattle.std.specs.Prelude.{◌≡◌, ◌≢◌, take, get_or}
 use Rattle.std.proofs.Math.Path.{refl, ap, ap₂, sym}
 use Rattle.std.proofs.Math.Dec.{eqb}
-use Rattle.std.specs.Int.Bits.{bit_or, or_zero_r}
-use Rattle.std.proofs.lemmas.Nat.{or_shr, or_mod}
+use Rattle.std.specs.Int.Bits.{bit_or}
 use Rattle.std.proofs.Math.ListN.{length, drop}
 use Rattle.std.proofs.Math.Seq.{take_at, drop_at}
-use Rattle.std.proofs.lemmas.Bool.{eqb-false}
 use Rattle.model.specs.Term.{Term, Bindings}
 use Rattle.model.specs.Rule.{Rule, match, choose, embeds, implies_by, implies, size_all}
 use Rattle.model.specs.Sign.{Signature, is_fact, are_facts}
 use Rattle.model.specs.Table.{Rec, rec_at, first_implying}
-use Rattle.theory.specs.Basics.{true≢false, no_confusion, both_true, true_both}
+use Rattle.theory.specs.Basics.{true≢false, both_true, true_both}
 use Rattle.theory.specs.Tables.{length_snoc}
 use Rattle.records.specs.Symbols.{arity_of, signature}
 use Rattle.records.specs.Tokens.{leaves, leaves_all, span}
 use Rattle.records.specs.Rules.{tokens_of}
 use Rattle.records.specs.TokenLaws.{Agrees, EachVar, EachVars, Small}
 use Rattle.records.specs.RuleLaws.{signature_agrees}
-use Rattle.records.specs.WorkLaws.{Holding, Fine, AllFine, Holds, length_rec, length_body, body_holding}
+use Rattle.records.specs.WorkLaws.{Holding, Fine, AllFine, length_rec, length_body, body_holding}
 use Rattle.records.specs.Work.{body, state, origin_bytes, encode_rec, encode_recs}
 use Rattle.terms.specs.Facts.{fact_at}
 use Rattle.terms.proofs.Digits.{digit, digit_same, digit_other, digit_zero}
 use Rattle.matching.specs.Match.{matched, onward, unbound}
 use Rattle.matching.specs.MatchLaws.{Spine, Means, At, fact_whole}
-use Rattle.matching.specs.FactLaws.{Facts, fnone, fmore, facts_of, span_facts, drop_facts, unbound_means, fact_ok}
+use Rattle.matching.specs.FactLaws.{Facts, fmore, facts_of, span_facts, drop_facts, unbound_means, fact_ok}
 use Rattle.imply.specs.Imply.{free, used_by, any, into, carried, implies_bytes, state_place, first_bytes}
 
 -- ---- sets as the digits of a number

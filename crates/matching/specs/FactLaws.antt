@@ -1,5 +1,5 @@
 -- The facts of a record's tokens one after another, and matching one of them against a fact of a text. Assumes nothing.
-use Rattle.std.specs.Prelude.{ℕ, zero, suc, ◌+◌, ◌≤◌, ◌<◌, false, ◌≡◌, length, get_or, replicate}
+use Rattle.std.specs.Prelude.{ℕ, suc, ◌+◌, false, ◌≡◌, length}
 use Rattle.std.proofs.Common.{arith, add-zero, ◌∙◌, subst, sym, drop_at}
 use Rattle.std.proofs.Math.Bool.{Bool, true}
 use Rattle.std.proofs.Math.Option.{Option, none, some}
@@ -9,7 +9,7 @@ use Rattle.std.proofs.Math.ListN.{take, drop, length-replicate, get_or-replicate
 use Rattle.model.specs.Term.{Term, size, Bindings}
 use Rattle.model.specs.Rule.{lookup, match, size_all}
 use Rattle.model.specs.Sign.{Signature, is_fact, are_facts}
-use Rattle.theory.specs.Basics.{true≢false, no_confusion, both_true, true_both}
+use Rattle.theory.specs.Basics.{both_true, true_both}
 use Rattle.theory.specs.Mend.{is_fact_wants}
 use Rattle.theory.specs.Tables.{length_snoc}
 use Rattle.records.specs.Tokens.{leaves, leaves_all, span}

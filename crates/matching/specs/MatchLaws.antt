@@ -1,12 +1,12 @@
 -- Matching on tokens is matching on terms: where a pattern and a text hold terms that keep to the arities, both answer alike. Assumes nothing.
 use Prim.Native.Nat.{ℕ, zero, suc, ◌+◌, ◌≤◌, ◌<◌}
-use Rattle.std.proofs.Common.{add-zero, ◌∙◌, subst, inl, inr, length-set, take-append-drop, get_or-set_same, get_or-set_other, get_or-drop, drop-drop}
+use Rattle.std.proofs.Common.{add-zero, ◌∙◌, subst, length-set, take-append-drop, get_or-set_same, get_or-set_other, get_or-drop, drop-drop}
 use Rattle.std.proofs.Math.Numerals.{add-one}
 use native.Mathlib.Omega.{arith}
 use Rattle.std.proofs.Math.Bool.{Bool, true, false}
 use Rattle.std.proofs.Math.Option.{Option, none, some}
 use mathlib.Core.List.{List, [], ◌∷◌, ◌++◌}
-use Rattle.std.specs.Prelude.{◌≡◌, ◌⊎◌, ◌≢◌, eqb, ltb, length, drop, get_or, set}
+use Rattle.std.specs.Prelude.{◌≡◌, ◌≢◌, eqb, length, drop, get_or, set}
 use Rattle.std.proofs.Math.Path.{refl, ap, ap₂, sym}
 use Rattle.std.proofs.Math.ListN.{take}
 use borrow.Author.Tests.{lt-ltb, le-ltb, eqb-true, eqb-false, eq-eqb, ne_eqb}

@@ -1,6 +1,6 @@
 -- What is derivable (Definition 2), over closed terms; which rules are valid, and which are harmless to skip. Assumes nothing.
-use Rattle.std.specs.Prelude.{ℕ, zero, suc, ◌+◌, ◌≤◌, Bool, true, List, [], ◌∷◌, map, ◌≡◌}
-use Rattle.std.proofs.Math.Option.{Option, some}
+use Rattle.std.specs.Prelude.{ℕ, suc, ◌+◌, ◌≤◌, true, List, [], ◌∷◌, map, ◌≡◌}
+use Rattle.std.proofs.Math.Option.{some}
 use Rattle.model.specs.Term.{Term, sub, closed}
 use Rattle.model.specs.Rule.{Rule}
 use Rattle.model.specs.Sign.{Signature, is_term}

@@ -1,9 +1,9 @@
 -- Drafts worked by hand, as facts about the definitions. Assumes nothing.
-use Rattle.std.specs.Prelude.{ℕ, zero, suc, Bool, true, false, List, [], ◌∷◌, ◌≡◌, refl}
-use Rattle.std.proofs.Math.Option.{Option, none, some}
+use Rattle.std.specs.Prelude.{ℕ, false, List, [], ◌∷◌, ◌≡◌, refl}
+use Rattle.std.proofs.Math.Option.{none, some}
 use Rattle.model.specs.Term.{Term, var, con, ◌·◌, unify}
-use Rattle.model.specs.Rule.{Rule, Limits, implies, combine, fits}
-use Rattle.model.specs.Table.{input, combined, kept_as, implied_by, too_large, Event}
+use Rattle.model.specs.Rule.{Rule, implies, combine}
+use Rattle.model.specs.Table.{input, kept_as, implied_by}
 use Rattle.model.specs.Run.{Setting}
 use Rattle.model.specs.Write.{Step}
 use Rattle.model.specs.Verify.{run, base, counts, Outcome}

@@ -1,8 +1,8 @@
 -- The whole run: its answer, and what it leaves in the tables. Assumes nothing.
-use Rattle.std.specs.Prelude.{ℕ, zero, suc, Bool, false, List, [], ◌∷◌, eqb, length}
+use Rattle.std.specs.Prelude.{ℕ, false, List, [], eqb, length}
 use Rattle.model.specs.Term.{Term, sub, both, same, size, vars, elem, distinct, occurs, bind1, diff, apply, mgu, unknowns, unify}
-use Rattle.model.specs.Rule.{Rule, Limits, sub_rule, vars_all, vars_of, place, renumber, among, firsts, drop_copies, normal, size_all, fits, is_open, all_open, lookup, bind_to, match, choose, embeds, implies_by, implies, nth, without, left, right, resolvent, by_unifier, upon, combine}
-use Rattle.model.specs.Table.{Rec, rec_at, Table, nothing, first_implying, fate, retire1, retire, added, log, Cause, rules_full, rule_large, goals_full, goal_large, steps_full, fact_large, Stop, found, lack, Progress, going, stopped, and_then}
+use Rattle.model.specs.Rule.{Rule, sub_rule, vars_all, vars_of, place, renumber, among, firsts, drop_copies, normal, size_all, fits, is_open, all_open, lookup, bind_to, match, choose, embeds, implies_by, implies, nth, without, left, right, resolvent, by_unifier, upon, combine}
+use Rattle.model.specs.Table.{rec_at, Table, nothing, first_implying, fate, retire1, retire, added, log, Cause, rules_full, rule_large, goals_full, goal_large, steps_full, fact_large, Stop, found, lack, Progress, going, stopped, and_then}
 use Rattle.model.specs.Run.{Setting, rule_fate, settle, keep, load, shut, may_combine, attempt, keep_if, upon_hyp, upon_hyps, hyps_of, pair, row, rows, complete, goal_fate, success, settle_goal, keep_goal, keep_goal_if, backward, try_rules, try_goals, goal0, search}
 use Rattle.model.specs.Write.{Step, constant, or_else, filler, rule_at, rule_of, before, unifier_at, parents, input_values, concluded, numbers, all_short, put_step, step_by, write_step, write_input, record', write, derivation}
 

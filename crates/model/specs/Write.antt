@@ -3,7 +3,7 @@ use Rattle.std.specs.Prelude.{ℕ, zero, suc, ◌+◌, ◌*◌, Bool, true, fals
 use Rattle.std.proofs.Math.Option.{Option, none, some}
 use Rattle.model.specs.Term.{Term, var, con, ◌·◌, sub, same, size, elem, Bindings, apply, unify}
 use Rattle.model.specs.Rule.{Rule, Limits, vars_of, place, drop_copies, nth, left, right, resolvent}
-use Rattle.model.specs.Table.{Origin, input, combined, asked, Rec, rec_at, steps_full, fact_large, found, lack, Progress, going, stopped, and_then}
+use Rattle.model.specs.Table.{input, combined, asked, Rec, rec_at, steps_full, fact_large, found, lack, Progress, going, stopped, and_then}
 
 -- A step: an input rule, the earlier steps for its hypotheses in order, repeats included, and the closed fact that it concludes.
 pub record Step : Type 0 where

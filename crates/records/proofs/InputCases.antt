@@ -1,17 +1,16 @@
 -- Laws of which input is refused: the answer in each case. Assumes nothing.
-use mathlib.Core.Path.{◌≡◌, refl, sym, ap, ◌∙◌}
+use mathlib.Core.Path.{◌≡◌, refl, sym, ◌∙◌}
 use mathlib.Core.Bool.{Bool, true, false}
 use mathlib.Core.Option.{Option, none, some}
-use mathlib.Core.List.{List, [], ◌∷◌}
-use Prim.Native.Nat.{ℕ, ◌+◌, ◌*◌, ◌/◌, ◌%◌, ◌≤◌, ◌<◌}
+use mathlib.Core.List.{List}
+use Prim.Native.Nat.{ℕ, ◌+◌, ◌*◌, ◌/◌, ◌%◌, ◌≤◌}
 use native.Mathlib.Omega.{arith}
-use borrow.Author.Tests.{eq-eqb, ne_eqb, le-leb, lt-leb, leb-true}
+use borrow.Author.Tests.{eq-eqb, ne_eqb, leb-true}
 use lib.Dec.{eqb, leb}
 use lib.ListN.{length}
 use Rattle.model.specs.Term.{both}
 use Rattle.records.specs.declared.Fault.TheVariants.{Length, Record}
 use Rattle.records.specs.declared.Refusal.TheVariants.{Symbols, Rules, Query}
-use Rattle.records.specs.declared.Input.{Input}
 use Rattle.records.specs.declared.Input.TheVariants.{Good, Bad}
 use Rattle.records.specs.declared.Found.{Found}
 use Rattle.records.specs.declared.Found.TheVariants.{At, Nothing}

@@ -1,6 +1,6 @@
 -- Rule records and the query as bytes: count of hypotheses, count of tokens, the tokens, and what is left. Assumes nothing.
 -- A record of room for T tokens has T + 8 bytes: 2 counts, the tokens, and 6 bytes of state and origin.
-use Rattle.std.specs.Prelude.{ℕ, zero, suc, ◌+◌, ◌-◌, ◌*◌, ◌/◌, ◌%◌, Bool, true, false, List, [], ◌∷◌, ◌++◌, eqb, leb, ltb, length, take, drop, get_or, replicate}
+use Rattle.std.specs.Prelude.{ℕ, zero, suc, ◌+◌, ◌-◌, Bool, true, false, List, [], ◌∷◌, ◌++◌, eqb, leb, ltb, length, take, drop, get_or, replicate}
 use Rattle.std.proofs.Math.Option.{Option, none, some}
 use Rattle.model.specs.Term.{Term, both, size}
 use Rattle.model.specs.Rule.{Rule, size_all}

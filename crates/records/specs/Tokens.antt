@@ -1,5 +1,5 @@
 -- Prefix tokens and terms: what a list of tokens holds, and the tokens of a term. Assumes nothing.
-use Rattle.std.specs.Prelude.{ℕ, zero, suc, ◌+◌, Bool, true, false, List, [], ◌∷◌, ◌++◌, ltb, take, drop}
+use Rattle.std.specs.Prelude.{ℕ, zero, suc, ◌+◌, true, false, List, [], ◌∷◌, ltb, take, drop}
 use Rattle.model.specs.Term.{Term, var, con, ◌·◌}
 use Rattle.model.specs.Rule.{Rule}
 

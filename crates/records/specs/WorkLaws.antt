@@ -1,26 +1,25 @@
 -- Working records and their bytes give each other back, one by one and in a table. Assumes nothing.
 use Prim.Native.Nat.{ℕ, zero, suc, ◌+◌, ◌-◌, ◌*◌, ◌/◌, ◌%◌, ◌≤◌, ◌<◌}
-use Rattle.std.proofs.Common.{add-zero, zero-add, add_assoc, ◌∙◌, subst, take-append-drop, drop-drop, get_or-append-add, get_or-drop}
+use Rattle.std.proofs.Common.{add-zero, ◌∙◌, drop-drop, get_or-append-add}
 use native.Mathlib.Omega.{arith}
 use Rattle.std.specs.Prelude.{Bool, true, ◌≡◌, eqb, drop, get_or, replicate}
 use Rattle.std.proofs.Math.Bool.{false}
-use Rattle.std.proofs.Math.Option.{Option, none, some}
-use mathlib.Core.List.{List, [], ◌∷◌, ◌++◌, append_assoc, append-nil}
+use Rattle.std.proofs.Math.Option.{some}
+use mathlib.Core.List.{List, [], ◌∷◌, ◌++◌, append_assoc}
 use Rattle.std.proofs.Math.Path.{refl, ap, ap₂, sym}
-use Rattle.std.proofs.Math.ListN.{length, take, length-append, get_or-append}
+use Rattle.std.proofs.Math.ListN.{length, take, length-append}
 use Rattle.std.proofs.lemmas.List.{length-replicate}
 use Rattle.std.proofs.Math.Seq.{take_at, drop_at}
-use Rattle.model.specs.Term.{Term, size}
 use Rattle.model.specs.Rule.{Rule, size_all}
-use Rattle.model.specs.Sign.{Signature, are_facts, well_formed}
+use Rattle.model.specs.Sign.{are_facts, well_formed}
 use Rattle.model.specs.Table.{Origin, input, combined, asked, Rec, rec_at}
-use Rattle.theory.specs.Basics.{true≢false, no_confusion}
+use Rattle.theory.specs.Basics.{no_confusion}
 use Rattle.records.specs.Tokens.{leaves_all, terms, rule_of}
 use Rattle.records.specs.Symbols.{arity_of, signature}
 use Rattle.records.specs.Rules.{tokens_of, decode_rule}
-use Rattle.records.specs.TokenLaws.{EachVars, Small, Numbered, numbered_small, length_leaves_all, terms_facts}
+use Rattle.records.specs.TokenLaws.{EachVars, Small, length_leaves_all, terms_facts}
 use Rattle.records.specs.RuleLaws.{signature_agrees}
-use Rattle.records.specs.Work.{token_count, body, state, pair, origin_bytes, encode_rec, encode_recs, over, number, decode_origin, decode_rec, recs_of}
+use Rattle.records.specs.Work.{token_count, body, state, pair, origin_bytes, encode_rec, encode_recs, number, decode_origin, decode_rec, recs_of}
 
 -- ---- one record
 -- A record that the bytes can hold: well-formed, with at most 32 hypotheses, within T tokens, with variables below 64 and numbers of two bytes.

@@ -1,17 +1,16 @@
 -- What each answer of a run says of what the run leaves: the one occasion of each number, and what was found. Assumes nothing.
-use Rattle.std.specs.Prelude.{ℕ, zero, suc, ◌+◌, ◌≤◌, ◌<◌, Bool, true, false, List, [], ◌∷◌, ◌++◌, ◌≡◌, ◌⊎◌, length}
+use Rattle.std.specs.Prelude.{ℕ, ◌≤◌, ◌<◌, Bool, true, false, List, [], ◌∷◌, ◌≡◌, length}
 use native.Mathlib.Omega.{arith}
-use Rattle.std.proofs.Math.Option.{Option, none, some}
 use Rattle.std.proofs.Math.Path.{refl}
 use Rattle.std.proofs.Common.{ap, ◌∙◌, subst, sym, inl, inr}
 use Rattle.model.specs.Term.{Term}
 use Rattle.model.specs.Rule.{Rule, Limits, fits, implies}
-use Rattle.model.specs.Table.{Origin, Rec, rec_at, Fate, kept_as, implied_by, skipped, no_room, too_large, Event, Table, nothing, first_implying, fate, log, retire, added, Cause, rules_full, rule_large, goals_full, goal_large, steps_full, fact_large, Stop, found, lack, Progress, going, stopped}
+use Rattle.model.specs.Table.{Origin, Rec, Fate, kept_as, implied_by, skipped, no_room, too_large, Event, Table, nothing, fate, log, added, Cause, rules_full, rule_large, goals_full, goal_large, steps_full, fact_large, found, lack, Progress, going, stopped}
 use Rattle.model.specs.Run.{Setting, rule_fate, goal_fate, goal0, search}
 use Rattle.model.specs.Write.{Step, derivation}
 use Rattle.model.specs.Verify.{Answer, secret, derivable, room, Outcome, answer_of, written, searched, completed, first_phase, run}
-use Rattle.model.specs.Derive.{Closed, Input, Derives}
-use Rattle.theory.specs.Basics.{true≢false, no_confusion}
+use Rattle.model.specs.Derive.{Closed, Input}
+use Rattle.theory.specs.Basics.{no_confusion}
 use Rattle.theory.specs.Embed.{Mem, mem_nil, mem_cons}
 use Rattle.theory.specs.Sound.{D, ValidBy}
 use Rattle.theory.specs.Tables.{Live, Covers, FirstOk, first_ok, FateOk, fate_ok, kept_length, length_snoc}
@@ -21,7 +20,7 @@ use Rattle.theory.specs.Invariant.{Offers, Lacks, Passes, fate_of, Holds, first_
 use Rattle.theory.specs.Secret.{Each, first_valid}
 use Rattle.theory.specs.Origins.{ProvAll, rules_origins, Goals, Success, goals_origins, success_derives}
 use Rattle.theory.specs.Checks.{Last}
-use Rattle.theory.specs.Writes.{Known, Written, Lacked, WriteOk, derivation_ok}
+use Rattle.theory.specs.Writes.{Written, Lacked, WriteOk, derivation_ok}
 
 -- ---- occasions
 -- q fits, is not skipped, no live record of t implies it, and t has as many records as there is room for.

@@ -1,7 +1,7 @@
 -- Closed terms: substitution leaves them alone, and closed values make them. Assumes nothing.
-use Rattle.std.specs.Prelude.{ℕ, Bool, true, false, List, [], ◌∷◌, map, ◌≡◌, refl}
+use Rattle.std.specs.Prelude.{ℕ, List, [], ◌∷◌, map, ◌≡◌, refl}
 use Rattle.std.proofs.Common.{ap₂}
-use Rattle.model.specs.Term.{Term, var, con, ◌·◌, sub, closed, both}
+use Rattle.model.specs.Term.{Term, var, con, ◌·◌, sub, closed}
 use Rattle.model.specs.Derive.{Closed}
 use Rattle.theory.specs.Basics.{true≢false, both_true, true_both}
 

@@ -1,13 +1,13 @@
 -- Blanchet's Lifting at instances: what two instances of rules give together is an instance of the combination. Assumes nothing.
-use Rattle.std.specs.Prelude.{ℕ, zero, suc, ◌+◌, ◌*◌, ◌/◌, ◌%◌, ◌≤◌, ◌<◌, Bool, true, false, List, [], ◌∷◌, ◌++◌, map, ◌≡◌, ◌⊎◌, ◌≢◌, eqb, length, get_or}
+use Rattle.std.specs.Prelude.{ℕ, zero, suc, ◌+◌, ◌*◌, ◌/◌, ◌%◌, Bool, true, false, List, [], ◌∷◌, ◌++◌, map, ◌≡◌, ◌⊎◌, eqb, get_or}
 use Rattle.std.proofs.Common.{arith, le_refl, ap, ap₂, ◌∙◌, inl, inr, eqb-true, eq-eqb, ne_eqb}
 use Rattle.std.proofs.Math.Option.{Option, none, some}
 use Rattle.std.proofs.Math.Path.{refl, subst, sym}
 use Rattle.std.proofs.lemmas.Bool.{eqb-false}
-use Rattle.model.specs.Term.{Term, var, con, ◌·◌, sub, elem, distinct, mgu, unknowns, unify, apply, Bindings, vars}
+use Rattle.model.specs.Term.{Term, var, con, ◌·◌, sub, elem, distinct, unknowns, unify, apply, Bindings, vars}
 use Rattle.theory.specs.Subst.{sub_sub, sub_var, sub_ext, map_sub_var, map_sub_sub, In, in_var, in_left, in_right}
-use Rattle.theory.specs.Embed.{Sel, here, there, Emb, done, pick, emb_trans, emb_refl, emb_weaken, emb_sel, sel_map, emb_append, map_append, Implies, implies_trans}
-use Rattle.theory.specs.Unify.{Unifier, MguOk, mgu_ok, Within, ⊎-both, sel_length}
+use Rattle.theory.specs.Embed.{Sel, here, there, Emb, done, pick, emb_refl, emb_weaken, emb_append, map_append, Implies, implies_trans}
+use Rattle.theory.specs.Unify.{MguOk, mgu_ok, Within, sel_length}
 use Rattle.model.specs.Rule.{Rule, place, among, firsts, vars_all, vars_of, sub_rule, renumber, drop_copies, normal, nth, without, left, right, resolvent, by_unifier, upon, combine}
 
 -- ---- hypotheses by number

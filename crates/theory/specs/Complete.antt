@@ -1,26 +1,24 @@
 -- After loading every input rule is implied by a live record or was skipped; after completion so is every allowed combination of two live records. Assumes nothing.
 use Prim.Native.Nat.{ℕ, zero, suc, ◌+◌, ◌≤◌, ◌<◌}
 use native.Mathlib.Omega.{arith}
-use Rattle.std.specs.Prelude.{Bool, List, [], ◌∷◌, ◌++◌, map, ◌≡◌, ◌⊎◌}
+use Rattle.std.specs.Prelude.{Bool, List, [], ◌∷◌, ◌≡◌, ◌⊎◌}
 use Rattle.std.proofs.Math.Bool.{true, false}
 use Rattle.std.proofs.Math.Option.{Option, none, some}
 use Rattle.std.proofs.Math.Path.{refl, ap, ap₂, subst}
-use Rattle.std.proofs.Common.{◌∙◌, sym, inl, inr}
+use Rattle.std.proofs.Common.{◌∙◌, inl, inr}
 use Rattle.std.proofs.Math.Dec.{leb}
 use Rattle.std.proofs.Math.ListN.{length}
 use borrow.Author.Tests.{leb-true, leb-false}
 use Rattle.model.specs.Term.{Term, both}
-use Rattle.model.specs.Rule.{Rule, Limits, normal, nth, is_open, all_open, combine}
-use Rattle.model.specs.Table.{Origin, input, combined, Rec, rec_at, Fate, kept_as, implied_by, skipped, no_room, too_large, Table, fate, log, retire, added, Progress, going, stopped, and_then}
+use Rattle.model.specs.Rule.{Rule, normal, nth, all_open, combine}
+use Rattle.model.specs.Table.{Origin, input, combined, Rec, rec_at, Fate, kept_as, implied_by, skipped, no_room, too_large, Table, log, retire, Progress, going, stopped, and_then}
 use Rattle.model.specs.Run.{Setting, rule_fate, settle, keep, load, shut, may_combine, attempt, keep_if, upon_hyp, upon_hyps, hyps_of, pair, row, rows, complete}
 use Rattle.model.specs.Write.{rule_at}
 use Rattle.model.specs.Derive.{Input}
 use Rattle.theory.specs.Basics.{true≢false, no_confusion, both_true, true_both}
-use Rattle.theory.specs.Embed.{Implies, implies_refl, implies_trans}
-use Rattle.theory.specs.Combine.{normal_implies}
-use Rattle.theory.specs.Forest.{By}
-use Rattle.theory.specs.Loops.{Reached, Ok, ok_here, ok_then}
-use Rattle.theory.specs.Tables.{at_lt, Live, Covers, Step, step_refl, step_trans, fate_ok, FateOk, first_covers, added_live, kept_step, kept_length}
+use Rattle.theory.specs.Embed.{implies_refl}
+use Rattle.theory.specs.Loops.{Ok, ok_here, ok_then}
+use Rattle.theory.specs.Tables.{Covers, Step, step_refl, fate_ok, FateOk, first_covers, added_live, kept_step, kept_length}
 
 -- ---- keeping
 -- Implied by a live record, or skipped by the test.

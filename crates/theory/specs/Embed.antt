@@ -1,7 +1,7 @@
 -- Multiset inclusion as an injective choice, and implication of rules. Assumes nothing.
-use Rattle.std.specs.Prelude.{ℕ, zero, suc, ◌+◌, ◌*◌, List, [], ◌∷◌, ◌++◌, map, ◌≡◌, refl, ◌⊎◌}
-use Rattle.std.proofs.Common.{ap, ap₂, ◌∙◌, subst, sym, inl, inr}
-use Rattle.model.specs.Term.{Term, var, con, ◌·◌, sub}
+use Rattle.std.specs.Prelude.{ℕ, List, [], ◌∷◌, ◌++◌, map, ◌≡◌, refl, ◌⊎◌}
+use Rattle.std.proofs.Common.{ap, ◌∙◌, sym, inl, inr}
+use Rattle.model.specs.Term.{Term, var, sub}
 use Rattle.theory.specs.Basics.{no_confusion}
 use Rattle.theory.specs.Subst.{sub_sub, sub_var, map_sub_sub, map_sub_var}
 use Rattle.model.specs.Rule.{Rule}

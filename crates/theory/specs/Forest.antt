@@ -1,11 +1,11 @@
 -- Derivations whose nodes say only that a rule implies them, so that one rule can take another's place; and the two phases over them. Assumes nothing.
 use Rattle.std.specs.Prelude.{ℕ, zero, suc, ◌+◌, ◌≤◌, ◌<◌, Bool, true, false, ◌≡◌, ◌⊎◌}
 use Rattle.std.proofs.Common.{arith, ap₂, ◌∙◌, inl, inr}
-use Rattle.std.proofs.Math.Option.{Option, none, some}
+use Rattle.std.proofs.Math.Option.{some}
 use mathlib.Core.List.{List, [], ◌∷◌, ◌++◌, map}
 use Rattle.std.proofs.Math.Path.{refl, ap, subst, sym}
 use Rattle.model.specs.Term.{Term, sub}
-use Rattle.model.specs.Rule.{Rule, nth, without, combine, is_open, all_open}
+use Rattle.model.specs.Rule.{Rule, nth, combine, is_open, all_open}
 use Rattle.model.specs.Derive.{Closed, Derives, DerivesAll, by, nil, also, Valid, Harmless}
 use Rattle.theory.specs.Subst.{sub_sub, map_sub_sub}
 use Rattle.theory.specs.Closed.{closed_sub, closed_of, flat, flat_closed}

@@ -1,16 +1,16 @@
 -- Well-formed rules combine to well-formed rules, and so every record of a run is well-formed where the input is. Assumes nothing.
-use Prim.Native.Nat.{ℕ, zero, suc, ◌+◌, ◌*◌, ◌≤◌, ◌<◌}
-use Rattle.std.proofs.Common.{arith, ◌∙◌, sym}
+use Prim.Native.Nat.{ℕ, zero, suc, ◌+◌, ◌*◌}
+use Rattle.std.proofs.Common.{◌∙◌, sym}
 use Rattle.std.specs.Prelude.{Bool, ◌≡◌, eqb}
 use Rattle.std.proofs.Math.Bool.{true, false}
 use Rattle.std.proofs.Math.Option.{Option, none, some}
 use mathlib.Core.List.{List, [], ◌∷◌, ◌++◌, map}
 use Rattle.std.proofs.Math.Path.{refl, ap, ap₂, subst}
-use Rattle.model.specs.Term.{Term, var, con, ◌·◌, sub, both, occurs, bind1, Diff, agree, clash, bind, diff, mgu, unknowns, unify, apply, Bindings}
+use Rattle.model.specs.Term.{Term, var, con, ◌·◌, sub, occurs, bind1, Diff, agree, clash, bind, diff, mgu, unknowns, unify, apply, Bindings}
 use Rattle.model.specs.Rule.{Rule, sub_rule, vars_of, place, renumber, among, firsts, drop_copies, normal, nth, without, left, right, resolvent, by_unifier, upon, combine}
 use Rattle.model.specs.Sign.{Signature, given, wants, fact_wants, whole, is_term, is_fact, are_facts, well_formed}
-use Rattle.theory.specs.Basics.{true≢false, no_confusion, both_true, true_both}
-use Rattle.theory.specs.Mend.{wants_sub, wants_left, wants_right, fact_wants_left, fact_wants_right, is_term_wants, wants_is_term, is_fact_wants}
+use Rattle.theory.specs.Basics.{no_confusion, both_true, true_both}
+use Rattle.theory.specs.Mend.{wants_sub, wants_left, wants_right, fact_wants_left, fact_wants_right, is_fact_wants}
 
 module _ (S : Signature) where
   -- ---- substitutions by whole terms

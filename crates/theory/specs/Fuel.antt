@@ -208,15 +208,15 @@ module _ (L : Limits) (rs : List Rule) (t g : List Rec) (query : Term) where
 
 -- Where a parent's number is below its child's; a goal's R is a rule and its R' a goal.
 module _ (L : Limits) (rs : List Rule) (t g : List Rec) (query : Term)
-    (rulesBelow : (i : ℕ) (x : Rec) (k a b : ℕ) → rec_at t i ≡ some x → x.origin ≡ combined k a b → (a < i) × (b < i))
-    (goalsBelow : (i : ℕ) (x : Rec) (k a b : ℕ) → rec_at g i ≡ some x → x.origin ≡ combined k a b → (a < length t) × (b < i))
+    (rules_below : (i : ℕ) (x : Rec) (k a b : ℕ) → rec_at t i ≡ some x → x.origin ≡ combined k a b → (a < i) × (b < i))
+    (goals_below : (i : ℕ) (x : Rec) (k a b : ℕ) → rec_at g i ≡ some x → x.origin ≡ combined k a b → (a < length t) × (b < i))
   where
     below :
         (goal : Bool) (i : ℕ) (x : Rec) (k a b : ℕ) → record' L rs t g query goal i ≡ some x → x.origin ≡ combined k a b
         → (a < rank t goal i) × (rank t goal b < rank t goal i)
     unfolding record'
-    below true i x k a b e o = let z = goalsBelow i x k a b e o in (omega (arith, z.0), omega (arith, z.1))
-    below false i x k a b e o = rulesBelow i x k a b e o
+    below true i x k a b e o = let z = goals_below i x k a b e o in (omega (arith, z.0), omega (arith, z.1))
+    below false i x k a b e o = rules_below i x k a b e o
 
     number_same :
         (v w : Writer) (n : ℕ) → Agree L rs t g query v w n → (goal : Bool) (i : ℕ) (θ : ℕ → Term) (ss : List Step) → rank t goal i ≤ n

@@ -1,15 +1,15 @@
 -- What a run leaves in its records does not depend on its histories: each loop over records alone, with its own equations. Assumes nothing.
-use Prim.Native.Nat.{ℕ, zero, suc, ◌+◌}
+use Prim.Native.Nat.{ℕ, zero, suc}
 use Rattle.std.specs.Prelude.{Bool, ◌≡◌, leb, length}
 use Rattle.std.proofs.Math.Bool.{true, false}
 use Rattle.std.proofs.Math.Option.{Option, none, some}
 use mathlib.Core.List.{List, [], ◌∷◌}
 use Rattle.std.proofs.Math.Path.{refl, ap}
-use Rattle.std.proofs.Common.{ap₂, ◌∙◌, sym}
+use Rattle.std.proofs.Common.{◌∙◌, sym}
 use Rattle.model.specs.Term.{Term}
 use Rattle.model.specs.Rule.{Rule, normal}
-use Rattle.model.specs.Table.{Origin, input, combined, asked, Rec, rec_at, Fate, kept_as, implied_by, skipped, no_room, too_large, Table, nothing, log, retire, added, rules_full, rule_large, goals_full, goal_large, Stop, found, lack, Progress, going, stopped, and_then}
-use Rattle.model.specs.Run.{Setting, rule_fate, settle, keep, load, attempt, keep_if, upon_hyp, upon_hyps, hyps_of, pair, row, rows, complete, goal_fate, success, settle_goal, keep_goal, keep_goal_if, backward, try_rules, try_goals, goal0, search}
+use Rattle.model.specs.Table.{Origin, input, combined, Rec, rec_at, Fate, kept_as, implied_by, skipped, no_room, too_large, Table, log, found, Progress, going, stopped, and_then}
+use Rattle.model.specs.Run.{Setting, rule_fate, settle, keep, load, attempt, keep_if, upon_hyp, upon_hyps, hyps_of, pair, row, rows, goal_fate, success, settle_goal, keep_goal, keep_goal_if, backward, try_rules, try_goals}
 
 -- A table with no history, and an outcome without it.
 abbrev pub bare : List Rec → Table

@@ -1,6 +1,6 @@
 -- One-way matching and the search over hypotheses are right both ways, so the executable test decides implication (Definition 1). Assumes nothing.
-use Rattle.std.specs.Prelude.{ℕ, zero, suc, ◌+◌, ◌*◌, ◌≤◌, ◌<◌, Bool, true, false, List, [], ◌∷◌, ◌++◌, map, ◌≡◌, refl, ◌⊎◌, ◌≢◌, eqb}
-use Rattle.std.proofs.Common.{arith, ap, ap₂, ◌∙◌, subst, sym, inl, inr, eqb-true, eq-eqb, ne_eqb}
+use Rattle.std.specs.Prelude.{ℕ, Bool, true, false, List, [], ◌∷◌, map, ◌≡◌, refl, ◌⊎◌, ◌≢◌, eqb}
+use Rattle.std.proofs.Common.{ap, ap₂, ◌∙◌, subst, sym, inl, inr, eqb-true, eq-eqb}
 use Rattle.std.proofs.Math.Option.{Option, none, some}
 use Rattle.std.proofs.lemmas.Bool.{eqb-false}
 use Rattle.model.specs.Term.{Term, var, con, ◌·◌, sub, same, Bindings}

@@ -1,20 +1,19 @@
 -- What holds of the tables when the loops of the run end: one lemma for each phase, over any invariant of the table with its history.
 -- A rule is offered only as an input rule or as an allowed combination, a goal only as goal 0 or as a step backward. Assumes nothing.
-use Prim.Native.Nat.{ℕ, zero, suc, ◌+◌, ◌≤◌, ◌<◌}
-use Rattle.std.proofs.Common.{arith, ◌∙◌, subst}
+use Prim.Native.Nat.{ℕ, zero, suc, ◌+◌}
+use Rattle.std.proofs.Common.{arith, ◌∙◌}
 use Rattle.std.specs.Prelude.{Bool, ◌≡◌, leb, length}
 use Rattle.std.proofs.Math.Bool.{true, false}
 use Rattle.std.proofs.Math.Option.{Option, none, some}
-use mathlib.Core.List.{List, [], ◌∷◌, ◌++◌, map}
+use mathlib.Core.List.{List, [], ◌∷◌, ◌++◌}
 use Rattle.std.proofs.Math.Path.{refl, ap, sym}
 use Rattle.model.specs.Term.{Term, both}
 use Rattle.model.specs.Rule.{Rule, normal, all_open, combine}
-use Rattle.model.specs.Table.{Origin, input, combined, asked, Rec, rec_at, Fate, kept_as, implied_by, skipped, no_room, too_large, Table, nothing, fate, log, retire, added, Cause, rules_full, rule_large, goals_full, goal_large, steps_full, fact_large, Stop, found, lack, Progress, going, stopped, and_then}
+use Rattle.model.specs.Table.{Origin, input, combined, asked, Rec, rec_at, Fate, kept_as, implied_by, skipped, no_room, too_large, Table, nothing, log, retire, added, Cause, rules_full, rule_large, goals_full, goal_large, steps_full, fact_large, found, lack, Progress, going, stopped, and_then}
 use Rattle.model.specs.Run.{Setting, rule_fate, settle, keep, load, may_combine, attempt, keep_if, upon_hyp, upon_hyps, hyps_of, pair, row, rows, complete, goal_fate, success, settle_goal, keep_goal, keep_goal_if, backward, try_rules, try_goals, goal0, search}
 use Rattle.model.specs.Write.{rule_at}
 use Rattle.model.specs.Verify.{first_phase}
-use Rattle.theory.specs.Basics.{true≢false, no_confusion, both_true}
-use Rattle.theory.specs.Tables.{FateOk, fate_ok}
+use Rattle.theory.specs.Basics.{no_confusion, both_true}
 
 -- ---- the first phase
 -- What is offered to the records t.

@@ -1,26 +1,26 @@
 -- What is known of each record when the phases end: rules and goals are valid, every record has the parents that its origin names,
 -- goals keep the query as conclusion, and a search that succeeds has a goal without hypotheses last. Assumes nothing.
-use Rattle.std.specs.Prelude.{ℕ, zero, suc, ◌+◌, ◌≤◌, ◌<◌, Bool, true, false, ◌≡◌, refl, ◌⊎◌}
+use Rattle.std.specs.Prelude.{ℕ, suc, ◌+◌, ◌<◌, Bool, true, false, ◌≡◌, refl}
 use Rattle.std.proofs.Common.{arith, ◌∙◌, sym}
 use Rattle.std.proofs.Math.Option.{Option, none, some}
-use mathlib.Core.List.{List, [], ◌∷◌, ◌++◌, map}
+use mathlib.Core.List.{List, []}
 use Rattle.std.proofs.Math.Path.{ap, subst}
 use Rattle.std.proofs.Math.Logic.{inl, inr}
 use Rattle.std.proofs.Math.ListN.{length}
-use Rattle.model.specs.Term.{Term, var, sub, unify, apply, Bindings}
+use Rattle.model.specs.Term.{Term, sub, unify, apply, Bindings}
 use Rattle.model.specs.Rule.{Rule, sub_rule, renumber, drop_copies, normal, nth, left, right, resolvent, by_unifier, upon, combine}
-use Rattle.model.specs.Table.{Origin, input, combined, asked, Rec, rec_at, Table, retire1, retire, added, Cause, Progress}
+use Rattle.model.specs.Table.{Origin, input, combined, asked, Rec, rec_at, retire1, retire, added}
 use Rattle.model.specs.Run.{Setting, goal0, search}
 use Rattle.model.specs.Write.{rule_at}
 use Rattle.model.specs.Verify.{first_phase}
-use Rattle.model.specs.Derive.{Closed, Input, Derives}
+use Rattle.model.specs.Derive.{Closed, Input}
 use Rattle.theory.specs.Basics.{true≢false, no_confusion}
 use Rattle.theory.specs.Subst.{apply_sub}
 use Rattle.theory.specs.Closed.{closed_sub, flat, flat_closed}
 use Rattle.theory.specs.Embed.{mem_nil, mem_here, Mem}
 use Rattle.theory.specs.Sound.{D, ValidBy, combine_valid}
 use Rattle.theory.specs.Tables.{at_lt, at_append, at_snoc, at_last, at_map, at_unmap, length_snoc, length_map, retire1_ok}
-use Rattle.theory.specs.Invariant.{Offers, an_input, a_pair, Lacks, Holds, first_records, OffersGoal, the_query, a_step, LacksGoal, HoldsG, search_records}
+use Rattle.theory.specs.Invariant.{Offers, an_input, a_pair, Holds, first_records, OffersGoal, the_query, a_step, HoldsG, search_records}
 use Rattle.theory.specs.Secret.{Each, each_added}
 
 -- Record a of t has the rule r.

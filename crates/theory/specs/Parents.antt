@@ -1,19 +1,18 @@
 -- The values given to the two parents make them combine to the instance. Assumes nothing.
-use Rattle.std.specs.Prelude.{ℕ, zero, suc, ◌+◌, ◌*◌, ◌≤◌, ◌<◌, Bool, true, false, ◌≡◌, ◌⊎◌, ◌≢◌, eqb, length}
-use Rattle.std.proofs.Common.{arith, ap₂, ◌∙◌, eqb-true, eq-eqb, ne_eqb}
+use Rattle.std.specs.Prelude.{ℕ, zero, suc, ◌+◌, ◌*◌, Bool, true, false, ◌≡◌, eqb}
+use Rattle.std.proofs.Common.{◌∙◌, eq-eqb}
 use Rattle.std.proofs.Math.Option.{Option, none, some}
 use mathlib.Core.List.{List, [], ◌∷◌, ◌++◌, map}
 use Rattle.std.proofs.Math.Path.{refl, ap, subst, sym}
 use Rattle.std.proofs.Math.Logic.{inl, inr}
-use Rattle.std.proofs.lemmas.Bool.{eqb-false}
-use Rattle.model.specs.Term.{Term, var, con, ◌·◌, sub, elem, distinct, unify, apply, Bindings, vars}
-use Rattle.theory.specs.Subst.{apply_sub, sub_sub, sub_var, sub_ext, In}
+use Rattle.model.specs.Term.{Term, var, sub, elem, unify, apply, Bindings, vars}
+use Rattle.theory.specs.Subst.{apply_sub, sub_sub, sub_ext, In}
 use Rattle.theory.specs.Embed.{Sel, here, there, Mem, mem_map, mem_left, mem_right}
-use Rattle.theory.specs.Unify.{MguOk, Unifier}
+use Rattle.theory.specs.Unify.{MguOk}
 use Rattle.theory.specs.Basics.{true≢false, no_confusion}
-use Rattle.theory.specs.Combine.{Has, has_cons, has_nil, InAll, in_head, in_tail, in_vars, in_vars_all, vars_rest, distinct_has, unifier_of, nth_map, without_map}
+use Rattle.theory.specs.Combine.{Has, has_nil, InAll, in_head, in_tail, in_vars, in_vars_all, vars_rest, distinct_has, unifier_of, without_map}
 use Rattle.theory.specs.Sound.{firsts_mem}
-use Rattle.model.specs.Rule.{Rule, normal, place, firsts, vars_all, vars_of, sub_rule, renumber, drop_copies, nth, without, left, right, resolvent, by_unifier, upon, combine}
+use Rattle.model.specs.Rule.{Rule, normal, place, vars_all, vars_of, sub_rule, renumber, drop_copies, nth, without, left, right, resolvent, by_unifier, upon, combine}
 use Rattle.model.specs.Write.{or_else, before, unifier_at, parents}
 
 has_elem : (x : ℕ) {r : List ℕ} (l : List ℕ) → Sel x r l → elem x l ≡ true

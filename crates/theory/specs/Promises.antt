@@ -1,23 +1,22 @@
 -- The theorems as a reader wants them: what the answers of a run mean, and what the checker's do. Assumes nothing.
-use Rattle.std.specs.Prelude.{ℕ, zero, suc, ◌+◌, ◌≤◌, ◌<◌, Bool, true, false, List, [], ◌∷◌, ◌++◌, ◌≡◌, refl, ◌⊎◌, length}
-use Rattle.std.proofs.Common.{arith, ap, ◌∙◌, subst, sym, inl, inr}
-use Rattle.std.proofs.Math.Option.{Option, none, some}
-use Rattle.model.specs.Term.{Term, closed}
-use Rattle.model.specs.Rule.{Rule, Limits, fits}
-use Rattle.model.specs.Table.{Origin, Rec, Event, no_room, too_large, Cause, rules_full, rule_large, goals_full, goal_large, steps_full, fact_large}
+use Rattle.std.specs.Prelude.{ℕ, ◌≤◌, true, false, List, [], ◌∷◌, ◌++◌, ◌≡◌, refl, ◌⊎◌, length}
+use Rattle.std.proofs.Common.{arith, subst, sym, inl, inr}
+use Rattle.std.proofs.Math.Option.{some}
+use Rattle.model.specs.Term.{Term}
+use Rattle.model.specs.Rule.{Rule, fits}
+use Rattle.model.specs.Table.{Origin, rules_full, rule_large, goals_full, goal_large, steps_full, fact_large}
 use Rattle.model.specs.Run.{Setting}
 use Rattle.model.specs.Write.{Step, filler}
-use Rattle.model.specs.Verify.{Answer, secret, derivable, room, cause_number, number, Outcome, run, base}
+use Rattle.model.specs.Verify.{Answer, secret, derivable, room, cause_number, number, run, base}
 use Rattle.model.specs.Check.{judge, accepted}
 use Rattle.model.specs.Sign.{Signature, is_fact, well_formed}
-use Rattle.model.specs.Derive.{Closed, Ground, Input, Derives, Harmless}
+use Rattle.model.specs.Derive.{Closed, Ground, Input, Derives}
 use Rattle.theory.specs.Basics.{true≢false, no_confusion}
-use Rattle.theory.specs.Embed.{Mem}
 use Rattle.theory.specs.Sound.{D}
 use Rattle.theory.specs.Secret.{secret_means}
 use Rattle.theory.specs.Invariant.{Offers, OffersGoal}
-use Rattle.theory.specs.Answers.{Full, Means, run_means, NoLack, LackLast, RuleOccasion, GoalOccasion}
-use Rattle.theory.specs.Checks.{AllFollow, Last, accepted_exactly}
+use Rattle.theory.specs.Answers.{Full, Means, run_means, NoLack}
+use Rattle.theory.specs.Checks.{Last, accepted_exactly}
 use Rattle.theory.specs.Writes.{Lacked}
 use Rattle.theory.specs.Mend.{mended, filler_ground}
 

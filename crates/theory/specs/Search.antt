@@ -1,5 +1,5 @@
 -- A search that ends without success has combined every goal with every rule it may. Assumes nothing.
-use Rattle.std.specs.Prelude.{ℕ, zero, suc, ◌+◌, ◌≤◌, ◌<◌, Bool, true, false, List, [], ◌∷◌, ◌++◌, map, ◌≡◌, refl, ◌⊎◌, leb, length}
+use Rattle.std.specs.Prelude.{ℕ, zero, suc, ◌+◌, ◌≤◌, ◌<◌, Bool, true, false, List, [], ◌∷◌, ◌≡◌, refl, leb, length}
 use Rattle.std.proofs.Common.{arith, ap, ◌∙◌, subst, sym, inl, inr, leb-true, leb-false}
 use Rattle.std.proofs.Math.Option.{Option, none, some}
 use Rattle.model.specs.Term.{Term, both}
@@ -9,7 +9,7 @@ use Rattle.model.specs.Run.{Setting, goal_fate, success, settle_goal, keep_goal,
 use Rattle.theory.specs.Basics.{true≢false, no_confusion, true_both}
 use Rattle.theory.specs.Embed.{implies_refl}
 use Rattle.theory.specs.Tables.{at_lt, at_none, length_snoc, Live, live_cons, Covers, Step, step_refl, FateOk, fate_ok, first_covers, added_live, added_step}
-use Rattle.theory.specs.Loops.{Reached, Ok, ok_here, ok_then}
+use Rattle.theory.specs.Loops.{Ok, ok_here, ok_then}
 
 -- room for goals
 abbrev cap : Setting → ℕ

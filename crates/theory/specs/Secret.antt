@@ -1,26 +1,26 @@
 -- A run that answers secret is right: no derivation of any size from the input rules concludes the query. Assumes nothing.
-use Rattle.std.specs.Prelude.{ℕ, zero, suc, ◌+◌, ◌≤◌, ◌<◌, Bool, true, false, ◌≡◌, refl, ◌⊎◌, length}
+use Rattle.std.specs.Prelude.{ℕ, Bool, true, false, ◌≡◌, refl, ◌⊎◌}
 use Rattle.std.proofs.Common.{arith, ap, ◌∙◌, subst, sym}
 use Rattle.std.proofs.Math.Option.{Option, none, some}
-use mathlib.Core.List.{List, [], ◌∷◌, ◌++◌}
+use mathlib.Core.List.{List, [], ◌∷◌}
 use Rattle.std.proofs.Math.Logic.{inl, inr}
 use Rattle.model.specs.Term.{Term}
 use Rattle.model.specs.Rule.{Rule, normal, nth, is_open, all_open, combine}
-use Rattle.model.specs.Table.{Origin, Rec, rec_at, Table, nothing, retire1, retire, added, Cause, Stop, found, lack, Progress, going, stopped, and_then}
+use Rattle.model.specs.Table.{Origin, Rec, rec_at, Table, nothing, retire1, retire, added, found, lack, Progress, going, stopped}
 use Rattle.model.specs.Run.{Setting, load, shut, complete, goal0, search}
 use Rattle.model.specs.Write.{Step}
-use Rattle.model.specs.Verify.{Answer, secret, derivable, room, Outcome, answer_of, written, searched, completed, first_phase, run}
-use Rattle.model.specs.Derive.{Closed, Input, Derives, Valid, Harmless}
+use Rattle.model.specs.Verify.{secret, answer_of, written, searched, completed, first_phase, run}
+use Rattle.model.specs.Derive.{Closed, Input, Derives, Harmless}
 use Rattle.theory.specs.Basics.{true≢false, no_confusion}
-use Rattle.theory.specs.Embed.{Implies, implies_trans}
+use Rattle.theory.specs.Embed.{implies_trans}
 use Rattle.theory.specs.Combine.{normal_implies}
-use Rattle.theory.specs.Forest.{Forest, to_forest, harmless_forest, Safe, By, Open, Small, rule, phase0, phase1, phase2}
+use Rattle.theory.specs.Forest.{Forest, to_forest, harmless_forest, Safe, By, Open, Small, phase0, phase1, phase2}
 use Rattle.theory.specs.Sound.{ValidBy, valid_by, input_valid, normal_valid, combine_valid}
-use Rattle.theory.specs.Tables.{at_lt, at_snoc, at_unmap, Live, live_at, Covers, retire1_ok}
-use Rattle.theory.specs.Loops.{Reached, Ok, ok_then}
-use Rattle.theory.specs.Complete.{Settled, settled_step, Loaded, load_ok, Done, All, Square, Whole, complete_ok, may_join}
+use Rattle.theory.specs.Tables.{at_lt, at_snoc, at_unmap, Live, Covers, retire1_ok}
+use Rattle.theory.specs.Loops.{Ok, ok_then}
+use Rattle.theory.specs.Complete.{settled_step, Loaded, load_ok, Done, All, Square, Whole, complete_ok, may_join}
 use Rattle.theory.specs.Search.{Tried, Exhausted, search_ok}
-use Rattle.theory.specs.Invariant.{Offers, an_input, a_pair, Lacks, Holds, first_records, OffersGoal, the_query, a_step, LacksGoal, HoldsG, search_records}
+use Rattle.theory.specs.Invariant.{Offers, an_input, a_pair, Holds, first_records, HoldsG, search_records}
 
 -- ---- P of each record's rule
 abbrev pub Each : (Rule → Type 0) → List Rec → Type 0

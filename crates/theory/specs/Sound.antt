@@ -1,11 +1,11 @@
 -- Loading and combining keep validity: what a record's rule says follows from the input rules. Assumes nothing.
-use Prim.Native.Nat.{ℕ, zero, suc, ◌+◌}
-use Rattle.std.specs.Prelude.{Bool, true, false, List, [], ◌∷◌, ◌++◌, map, ◌≡◌, ◌⊎◌}
+use Prim.Native.Nat.{ℕ, suc}
+use Rattle.std.specs.Prelude.{Bool, true, false, List, [], ◌∷◌, map, ◌≡◌, ◌⊎◌}
 use Rattle.std.proofs.Math.Option.{Option, none, some}
 use Rattle.std.proofs.Math.Path.{refl, ap, subst}
-use Rattle.std.proofs.Common.{ap₂, ◌∙◌, sym}
+use Rattle.std.proofs.Common.{◌∙◌, sym}
 use Rattle.std.proofs.Math.Logic.{inl, inr}
-use Rattle.model.specs.Term.{Term, var, sub, same, closed, unify, apply, Bindings}
+use Rattle.model.specs.Term.{Term, var, sub, same, unify, apply, Bindings}
 use Rattle.model.specs.Rule.{Rule, among, firsts, sub_rule, renumber, drop_copies, normal, vars_of, place, nth, without, left, right, resolvent, by_unifier, upon, combine}
 use Rattle.model.specs.Derive.{Closed, Derives, DerivesAll, by, nil, also, Valid}
 use Rattle.theory.specs.Basics.{true≢false, no_confusion}

@@ -1,6 +1,6 @@
 -- Laws of substitution. Assumes nothing.
-use Rattle.std.specs.Prelude.{ℕ, zero, suc, ◌+◌, ◌*◌, Bool, true, false, List, [], ◌∷◌, ◌++◌, map, ◌≡◌, refl, ◌⊎◌}
-use Rattle.std.proofs.Common.{ap, ap₂, ◌∙◌, sym, inl, inr}
+use Rattle.std.specs.Prelude.{ℕ, List, [], ◌∷◌, map, ◌≡◌, refl}
+use Rattle.std.proofs.Common.{ap₂, ◌∙◌, sym}
 use Rattle.model.specs.Term.{Term, var, con, ◌·◌, sub, bind1, apply, Bindings}
 
 pub sub_sub : (r s : ℕ → Term) (t : Term) → sub r (sub s t) ≡ sub (λ x. sub r (s x)) t

@@ -1,11 +1,11 @@
 -- Records by number, live records and what they imply, and what becomes of a rule that is offered. Assumes nothing.
-use Rattle.std.specs.Prelude.{ℕ, zero, suc, ◌+◌, ◌≤◌, ◌<◌, Bool, true, false, List, [], ◌∷◌, ◌++◌, map, ◌≡◌, refl, ◌⊎◌, leb, length}
+use Rattle.std.specs.Prelude.{ℕ, zero, suc, ◌≤◌, ◌<◌, Bool, true, false, List, [], ◌∷◌, ◌++◌, map, ◌≡◌, refl, ◌⊎◌, leb, length}
 use Rattle.std.proofs.Common.{arith, ap, ◌∙◌, subst, sym, inl, inr, leb-true, leb-false}
 use Rattle.std.proofs.Math.Option.{Option, none, some}
 use Rattle.model.specs.Rule.{Rule, Limits, fits, implies}
 use Rattle.model.specs.Table.{Origin, Rec, rec_at, Fate, kept_as, implied_by, skipped, no_room, too_large, first_implying, fate, retire1, retire, added}
 use Rattle.theory.specs.Basics.{true≢false, no_confusion}
-use Rattle.theory.specs.Embed.{Implies, implies_refl, implies_trans}
+use Rattle.theory.specs.Embed.{Implies, implies_trans}
 use Rattle.theory.specs.Implies.{implies_ok, ImpliesOk}
 use Rattle.theory.specs.Forest.{By}
 

@@ -1,13 +1,13 @@
 -- Robinson's unifier is sound, most general, and fails only where there is no unifier. Assumes nothing.
-use Rattle.std.specs.Prelude.{ℕ, zero, suc, ◌+◌, ◌*◌, ◌≤◌, ◌<◌, Bool, List, [], ◌∷◌, ◌++◌, map, ◌≡◌, refl, ◌⊎◌, ◌≢◌, length}
+use Rattle.std.specs.Prelude.{ℕ, zero, suc, ◌≤◌, Bool, List, [], ◌∷◌, ◌≡◌, refl, ◌⊎◌, ◌≢◌, length}
 use Rattle.std.proofs.Common.{arith, ap, ap₂, ◌∙◌, subst, sym}
 use Rattle.std.proofs.Math.Bool.{true, false}
 use Rattle.std.proofs.Math.Option.{Option, none, some}
 use Rattle.std.proofs.Math.Logic.{inl, inr}
 use Rattle.std.proofs.Math.Dec.{eqb}
-use borrow.Author.Tests.{eqb-true, eqb-false, eq-eqb, ne_eqb}
-use Rattle.model.specs.Term.{Term, var, con, ◌·◌, sub, occurs, bind1, Diff, agree, clash, bind, diff, mgu, apply, Bindings, vars, size}
-use Rattle.theory.specs.Subst.{sub_sub, sub_var, sub_ext, In, in_var, in_left, in_right}
+use borrow.Author.Tests.{eqb-true, eqb-false}
+use Rattle.model.specs.Term.{Term, var, con, ◌·◌, sub, occurs, bind1, Diff, agree, clash, bind, diff, mgu, apply, Bindings, size}
+use Rattle.theory.specs.Subst.{sub_sub, sub_ext, In, in_var, in_left, in_right}
 use Rattle.theory.specs.Embed.{Sel, here, there}
 
 -- ---- occurs

@@ -1,6 +1,6 @@
 -- Whatever finds a most general unifier, the combination is the same record. Assumes nothing.
-use Rattle.std.specs.Prelude.{ℕ, zero, suc, ◌+◌, ◌*◌, ◌≤◌, ◌<◌, Bool, ◌≡◌, ◌⊎◌, ◌≢◌, eqb, length, get_or}
-use Rattle.std.proofs.Common.{arith, ◌∙◌, subst, eqb-true, eq-eqb, ne_eqb}
+use Rattle.std.specs.Prelude.{ℕ, zero, suc, Bool, ◌≡◌, ◌⊎◌, ◌≢◌, eqb, length, get_or}
+use Rattle.std.proofs.Common.{◌∙◌, subst, eqb-true, eq-eqb, ne_eqb}
 use Rattle.std.proofs.Math.Bool.{true, false}
 use Rattle.std.proofs.Math.Option.{Option, none, some}
 use mathlib.Core.List.{List, [], ◌∷◌, ◌++◌, map}
@@ -9,7 +9,7 @@ use Rattle.std.proofs.Math.Logic.{inl, inr}
 use Rattle.std.proofs.lemmas.List.{length-map}
 use Rattle.std.proofs.lemmas.Bool.{eqb-false}
 use Rattle.model.specs.Term.{Term, var, con, ◌·◌, sub, same, elem, distinct, unify, apply, Bindings, vars}
-use Rattle.theory.specs.Subst.{apply_sub, sub_sub, sub_var, sub_ext, map_sub_sub, In, in_var, in_left, in_right}
+use Rattle.theory.specs.Subst.{apply_sub, sub_sub, sub_ext, map_sub_sub, In, in_var, in_left, in_right}
 use Rattle.theory.specs.Embed.{Sel, here, there}
 use Rattle.theory.specs.Unify.{MguOk, Unifier}
 use Rattle.theory.specs.Implies.{same_ok, SameOk}

@@ -10,15 +10,15 @@ use Rattle.std.proofs.Math.Logic.{inl, inr}
 use Rattle.std.proofs.Math.ListN.{length}
 use borrow.Author.Tests.{leb-true, leb-false}
 use Rattle.model.specs.Term.{Term, var, con, ◌·◌, sub, same, size, closed, elem, apply}
-use Rattle.model.specs.Rule.{Rule, Limits, vars_of, place, renumber, drop_copies, normal, firsts, nth, without, combine}
-use Rattle.model.specs.Table.{Origin, input, combined, asked, Rec, rec_at, Cause, rules_full, rule_large, goals_full, goal_large, steps_full, fact_large, Stop, found, lack, Progress, going, stopped, and_then}
+use Rattle.model.specs.Rule.{Rule, Limits, vars_of, place, drop_copies, normal}
+use Rattle.model.specs.Table.{Origin, input, combined, asked, Rec, rec_at, Cause, rules_full, rule_large, goals_full, goal_large, steps_full, fact_large, found, lack, Progress, going, stopped, and_then}
 use Rattle.model.specs.Run.{goal0}
-use Rattle.model.specs.Write.{Step, constant, or_else, filler, rule_at, rule_of, before, unifier_at, parents, input_values, concluded, numbers, all_short, put_step, step_by, write_step, write_input, record', write, derivation}
+use Rattle.model.specs.Write.{Step, constant, or_else, filler, rule_at, rule_of, before, parents, input_values, concluded, numbers, all_short, put_step, step_by, write_step, write_input, record', write, derivation}
 use Rattle.model.specs.Check.{fact_at, facts_at}
 use Rattle.model.specs.Derive.{Closed}
 use Rattle.theory.specs.Basics.{true≢false, no_confusion}
 use Rattle.theory.specs.Closed.{closed_sub, closed_of}
-use Rattle.theory.specs.Embed.{Sel, here, there, Mem, mem_nil, mem_cons, mem_here, mem_there, mem_left, mem_right, mem_map, mem_unmap, sel_cases, map_append}
+use Rattle.theory.specs.Embed.{Mem, mem_nil, mem_cons, mem_here, mem_there, mem_left, mem_right, mem_unmap, sel_cases, map_append}
 use Rattle.theory.specs.Implies.{same_ok, SameOk}
 use Rattle.theory.specs.Combine.{sel_nth}
 use Rattle.theory.specs.Sound.{firsts_mem}
@@ -245,15 +245,15 @@ module _ (L : Limits) (rs : List Rule) (t g : List Rec) (query : Term) (closed-q
   then_ok ss f c (stopped found u) k h n = h
   then_ok ss f c (stopped (lack d) u) k h n = h
 
-  module _ (provT : ProvAll rs t t query false) (provG : ProvAll rs t g query true) where
+  module _ (prov_t : ProvAll rs t t query false) (prov_g : ProvAll rs t g query true) where
     own : Bool → List Rec
     own true = g
     own false = t
 
     prov : (goal : Bool) (i : ℕ) (x : Rec) → At goal i ≡ some x → Prov rs t (own goal) query i x goal
     unfolding record' own
-    prov true i x e = provG i x e
-    prov false i x e = provT i x e
+    prov true i x e = prov_g i x e
+    prov false i x e = prov_t i x e
 
     own_at : (goal : Bool) (b : ℕ) (r : Rule) → RuleIs (own goal) b r → RuleIs (own goal) b r × ((x : Rec) × (At goal b ≡ some x) × (x.rule ≡ r))
     unfolding record' own

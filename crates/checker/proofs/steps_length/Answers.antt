@@ -1,4 +1,4 @@
--- `checker::steps_length` meets its contract: each test in turn is a part of `stepsLength`. Assumes nothing.
+-- `checker::steps_length` meets its contract: each test in turn is a part of `steps_length`. Assumes nothing.
 use borrow.Author.Tests.{le-leb, lt-leb}
 use Rattle.model.specs.Term.{both}
 use Rattle.checker.specs.Steps.{steps_length}

@@ -3,7 +3,6 @@ use mathlib.Core.Path.{◌∙◌}
 use Prim.Native.Nat.{◌+◌}
 use native.Mathlib.Omega.{arith}
 use Rattle.combine.specs.Built.{site_asks, add_long, add_grows, copy_bounded, add_copy, add_large, add_many, add_kept}
-use Rattle.combine.proofs.add.Lts as lts
 use Rattle.combine.proofs.add.Goals as goal
 
 pub overflow_add-cap : goal.overflow_add-cap

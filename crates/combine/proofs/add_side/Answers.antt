@@ -6,7 +6,6 @@ use Rattle.records.specs.Symbols.{arity_of}
 use Rattle.unify.specs.Facts.{facts}
 use Rattle.unify.specs.Nodes.{node}
 use Rattle.combine.specs.Places.{visits, along_start, along_skip, along_went, along_over, along_end, visit_skip, visit_node, visit_none}
-use Rattle.combine.proofs.add_side.Lts as lts
 use Rattle.combine.proofs.add_side.Goals as goal
 
 -- src/lib.rt:116:9

@@ -7,7 +7,6 @@ use Rattle.records.specs.Symbols.{arity_of}
 use Rattle.unify.specs.Facts.{facts}
 use Rattle.combine.specs.Built.{Built}
 use Rattle.combine.specs.Places.{visits, Along}
-use Rattle.combine.proofs.add_side.Lts as lts
 use Rattle.combine.proofs.add_side.Given as goal
 
 abbrev pub invariant-loop-k : goal.invariant-loop-k

@@ -1,9 +1,8 @@
 use mathlib.Core.Path.{◌≡◌, refl, ap, ◌∙◌}
-use Prim.Native.Nat.{ℕ, ◌-◌}
+use Prim.Native.Nat.{ℕ}
 use native.Mathlib.Omega.{arith}
 use lib.ListN.{length-set}
 use Rattle.combine.specs.Settle.{blanked, blank_start, blank_next}
-use Rattle.combine.proofs.blank.Lts as lts
 use Rattle.combine.proofs.blank.Goals as goal
 
 -- src/lib.rt:217:5

@@ -2,7 +2,6 @@ use mathlib.Core.Path.{◌≡◌}
 use Prim.Native.Nat.{◌-◌, ◌≤◌}
 use lib.ListN.{length}
 use Rattle.combine.specs.Settle.{blanked}
-use Rattle.combine.proofs.blank.Lts as lts
 use Rattle.combine.proofs.blank.Given as goal
 
 abbrev pub invariant-loop-i : goal.invariant-loop-i

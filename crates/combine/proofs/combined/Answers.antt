@@ -1,12 +1,10 @@
 -- src/lib.rt:246:26
 use mathlib.Core.Bool.{false}
 use mathlib.Core.Path.{◌∙◌}
-use Prim.Native.Nat.{◌-◌}
 use native.Mathlib.Omega.{arith}
 use Rattle.unify.specs.Facts.{facts}
 use Rattle.combine.specs.Settle.{all_nodes, went_built, large_over, over_settled, built_low}
 use Rattle.combine.specs.Final.{site_of, result_of}
-use Rattle.combine.proofs.combined.Lts as lts
 use Rattle.combine.proofs.combined.Goals as goal
 
 pub gathered-requires : goal.gathered-requires

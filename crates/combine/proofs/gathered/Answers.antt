@@ -1,12 +1,10 @@
 -- src/lib.rt:153:26
 use mathlib.Core.Path.{◌∙◌}
 use mathlib.Core.List.{[], ◌∷◌}
-use Prim.Native.Nat.{◌-◌}
 use native.Mathlib.Omega.{arith}
 use Rattle.unify.specs.Facts.{facts}
 use Rattle.unify.specs.Nodes.{node}
 use Rattle.combine.specs.Settle.{went_built, large_over, start_over, left_over, all_outcome, tokens_short}
-use Rattle.combine.proofs.gathered.Lts as lts
 use Rattle.combine.proofs.gathered.Goals as goal
 
 pub start-requires : goal.start-requires

@@ -1,8 +1,6 @@
 use mathlib.Core.Path.{◌≡◌}
-use Prim.Native.Nat.{◌-◌}
 use native.Mathlib.Omega.{arith}
 use Rattle.combine.proofs.Laws.{copy_none, copy_next, copy_found}
-use Rattle.combine.proofs.is_copy.Lts as lts
 use Rattle.combine.proofs.is_copy.Goals as goal
 
 -- src/lib.rt:59:5

@@ -1,6 +1,5 @@
 use Prim.Native.Nat.{◌-◌, ◌≤◌}
 use Rattle.combine.specs.Copies.{Copy}
-use Rattle.combine.proofs.is_copy.Lts as lts
 use Rattle.combine.proofs.is_copy.Given as goal
 
 abbrev pub invariant-loop-j : goal.invariant-loop-j

@@ -1,9 +1,7 @@
 -- src/lib.rt:175:8
-use Prim.Native.Nat.{◌-◌}
 use native.Mathlib.Omega.{arith}
 use lib.Count.{ones-le}
 use Rattle.combine.specs.Numbers.{name_old, name_full, name_new}
-use Rattle.combine.proofs.name.Lts as lts
 use Rattle.combine.proofs.name.Goals as goal
 
 -- src/lib.rt:176:9

@@ -2,7 +2,6 @@
 use Prim.Native.Nat.{◌-◌}
 use native.Mathlib.Omega.{arith}
 use lib.Count.{trailing_le}
-use Rattle.combine.proofs.next.Lts as lts
 use Rattle.combine.proofs.next.Goals as goal
 
 pub overflow_add-result : goal.overflow_add-result

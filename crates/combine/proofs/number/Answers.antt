@@ -6,7 +6,6 @@ use lib.ListN.{take, drop, length-set}
 use Rattle.model.specs.Term.{distinct}
 use Rattle.combine.specs.Codes.{code_vars}
 use Rattle.combine.specs.Numbers.{naming_start, tokens_start, naming_high, naming_low, as_low, as_high, tokens_next, named_is, named_full, numbered_end}
-use Rattle.combine.proofs.number.Lts as lts
 use Rattle.combine.proofs.number.Goals as goal
 
 -- src/lib.rt:193:5

@@ -5,7 +5,6 @@ use lib.ListN.{length, take, drop}
 use Rattle.model.specs.Term.{distinct}
 use Rattle.combine.specs.Codes.{code_vars}
 use Rattle.combine.specs.Numbers.{Naming, tokens_to}
-use Rattle.combine.proofs.number.Lts as lts
 use Rattle.combine.proofs.number.Given as goal
 
 abbrev pub invariant-loop-i : goal.invariant-loop-i

@@ -1,8 +1,6 @@
 use mathlib.Core.Path.{◌≡◌, refl}
-use Prim.Native.Nat.{◌-◌}
 use native.Mathlib.Omega.{arith}
 use Rattle.combine.proofs.Laws.{codes_more, codes_differ}
-use Rattle.combine.proofs.same_codes.Lts as lts
 use Rattle.combine.proofs.same_codes.Goals as goal
 
 -- src/lib.rt:44:5

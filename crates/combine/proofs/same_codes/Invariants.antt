@@ -1,7 +1,6 @@
 use mathlib.Core.Path.{◌≡◌}
 use Prim.Native.Nat.{◌-◌, ◌≤◌}
 use lib.ListN.{take, drop}
-use Rattle.combine.proofs.same_codes.Lts as lts
 use Rattle.combine.proofs.same_codes.Given as goal
 
 abbrev pub invariant-loop-i : goal.invariant-loop-i

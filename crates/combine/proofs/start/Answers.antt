@@ -1,7 +1,6 @@
 -- src/lib.rt:73:57
 use native.Mathlib.Omega.{arith}
 use Rattle.combine.specs.Built.{site_asks, start_long, start_fits}
-use Rattle.combine.proofs.start.Lts as lts
 use Rattle.combine.proofs.start.Goals as goal
 
 pub node_at-requires : goal.node_at-requires

@@ -1,11 +1,9 @@
 -- src/lib.rt:230:5
 use mathlib.Core.Path.{◌∙◌}
 use mathlib.Core.List.{[]}
-use Prim.Native.Nat.{◌-◌}
 use native.Mathlib.Omega.{arith}
 use lib.ListN.{take, length-set}
 use Rattle.combine.specs.Settle.{blank_all, vars_over, text_written, numbered_no, numbered_yes}
-use Rattle.combine.proofs.written.Lts as lts
 use Rattle.combine.proofs.written.Goals as goal
 
 pub blank-requires : goal.blank-requires

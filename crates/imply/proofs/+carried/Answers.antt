@@ -1,5 +1,4 @@
 use mathlib.Core.Path.{sym, ◌∙◌}
-use Prim.Native.Nat.{◌-◌}
 use native.Mathlib.Omega.{arith}
 use Rattle.records.specs.Symbols.{arity_of}
 use Rattle.imply.proofs.Laws.{text_short, walk_start, carry_done, carry_start, way_used, way_other, way_unmatched, way_on, search_on, search_yes, search_end}

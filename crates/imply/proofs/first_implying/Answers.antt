@@ -1,5 +1,5 @@
 use mathlib.Core.Path.{ap, sym, ◌∙◌}
-use Prim.Native.Nat.{◌+◌, ◌-◌}
+use Prim.Native.Nat.{◌+◌}
 use native.Mathlib.Omega.{arith}
 use Rattle.records.specs.Symbols.{arity_of}
 use Rattle.records.specs.Found.{found_of}

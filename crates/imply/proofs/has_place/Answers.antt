@@ -1,5 +1,4 @@
 use mathlib.Core.Path.{sym, ◌∙◌}
-use Prim.Native.Nat.{◌-◌}
 use native.Mathlib.Omega.{arith}
 use Rattle.records.specs.Symbols.{arity_of}
 use Rattle.imply.proofs.Laws.{text_short, walk_start, walk_on, any_end, fits, place_start, place_yes, place_on}

@@ -1,5 +1,4 @@
 use mathlib.Core.Path.{sym, ◌∙◌}
-use Prim.Native.Nat.{◌-◌}
 use native.Mathlib.Omega.{arith}
 use Rattle.imply.proofs.Laws.{lead_var, lead_no, lead_yes, lead_end}
 use Rattle.imply.proofs.may_match.Goals as goal

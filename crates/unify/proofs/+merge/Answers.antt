@@ -2,9 +2,9 @@ use mathlib.Core.Path.{sym, ap₂, ◌∙◌}
 use mathlib.Core.Path.{◌≡◌}
 use mathlib.Core.List.{List}
 use lib.ListN.{length}
-use Prim.Native.Nat.{◌+◌, ◌-◌, ◌*◌, ◌<◌, min, max}
+use Prim.Native.Nat.{◌+◌, ◌*◌, ◌<◌, min, max}
 use native.Mathlib.Omega.{arith}
-use Rattle.unify.specs.Forest.{roots, find, Down}
+use Rattle.unify.specs.Forest.{find, Down}
 use Rattle.unify.specs.Nodes.{graph}
 use Rattle.unify.specs.Facts.{facts, facts_length, Given}
 use Rattle.unify.specs.Code.{answer_no, answer_yes, answer_same, Joint, joint_down, joint_roots, joint_less, joint_var, joint_clash, joint_true, joint_false, doing_start, doing_next, doing_clash, doing_done}

@@ -1,5 +1,4 @@
 use mathlib.Core.Path.{refl, sym, ◌∙◌}
-use Prim.Native.Nat.{◌-◌}
 use native.Mathlib.Omega.{arith}
 use Rattle.unify.specs.Nodes.{graph}
 use Rattle.unify.specs.Facts.{facts, facts_length}

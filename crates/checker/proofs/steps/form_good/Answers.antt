@@ -1,4 +1,4 @@
--- `checker::steps::form_good` meets its contract: each test in turn is a part of `formGood`. Assumes nothing.
+-- `checker::steps::form_good` meets its contract: each test in turn is a part of `form_good`. Assumes nothing.
 use mathlib.Core.Path.{refl, ◌∙◌}
 use native.Mathlib.Omega.{arith}
 use borrow.Author.Tests.{lt-ltb, le-ltb, eq-eqb, ne_eqb, le-leb, lt-leb}

@@ -1,5 +1,4 @@
 use mathlib.Core.Path.{refl, sym, ◌∙◌}
-use Prim.Native.Nat.{◌-◌}
 use native.Mathlib.Omega.{arith}
 use Rattle.records.proofs.Laws.{same_length, same_yes, same_no, same_end}
 use Rattle.records.proofs.parts.same_bytes.Goals as goal

@@ -1,5 +1,4 @@
 use mathlib.Core.Path.{refl, sym, ◌∙◌}
-use Prim.Native.Nat.{◌-◌}
 use native.Mathlib.Omega.{arith}
 use Rattle.records.proofs.Laws.{zeros_yes, zeros_no, zeros_end}
 use Rattle.records.proofs.parts.zeros.Goals as goal

@@ -1,4 +1,4 @@
--- `records::rules::rule_good` meets its contract: each test in turn is a part of `ruleGood`. Assumes nothing.
+-- `records::rules::rule_good` meets its contract: each test in turn is a part of `rule_good`. Assumes nothing.
 use mathlib.Core.Path.{refl, ◌∙◌}
 use borrow.Author.Tests.{le-leb, lt-leb}
 use Rattle.model.specs.Term.{both}

@@ -1,4 +1,4 @@
--- `records::symbols::symbol_good` meets its contract: each test in turn is a part of `symbolGood`. Assumes nothing.
+-- `records::symbols::symbol_good` meets its contract: each test in turn is a part of `symbol_good`. Assumes nothing.
 use mathlib.Core.Path.{refl}
 use Rattle.model.specs.Term.{both}
 use Rattle.records.proofs.Laws.{says_no, says_yes}
