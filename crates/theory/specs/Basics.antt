@@ -6,7 +6,7 @@ use Rattle.model.specs.Term.{both}
 pub true≢false : {A : Type 0} {b : Bool} → b ≡ true → b ≡ false → A
 true≢false p q = absurd (let z : ◌≡◌ {A = ℕ} 0 1 = cc in omega arith)
 
--- for `no-confusion (cc)`: two constructors are told apart
+-- for `no_confusion (cc)`: two constructors are told apart
 pub no_confusion : {A : Type 0} → ◌≡◌ {A = ℕ} 0 1 → A
 no_confusion z = absurd (omega arith)
 

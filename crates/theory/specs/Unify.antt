@@ -112,9 +112,9 @@ bound_right : (x : ℕ) (t : Term) → t ≢ var x → Bound t (var x) x t
 unfolding sub
 bound_right x t n = record { must = λ θ e. sym e; differ = n; held = inr in_var; from = λ y i. inl i }
 
-pub ⊎-both : {A B C D : Type 0} → (A → C) → (B → D) → A ⊎ B → C ⊎ D
-⊎-both f g (inl a) = inl (f a)
-⊎-both f g (inr b) = inr (g b)
+pub ⊎_both : {A B C D : Type 0} → (A → C) → (B → D) → A ⊎ B → C ⊎ D
+⊎_both f g (inl a) = inl (f a)
+⊎_both f g (inr b) = inr (g b)
 
 diff_var : (x y : ℕ) (c : Bool) → eqb x y ≡ c → DiffOk (var x) (var y) (elim c [ true ↦ agree | false ↦ bind x (var y) ])
 diff_var x y true e = ap var (eqb-true x y e)
@@ -135,16 +135,16 @@ diff_app a b c d agree (bind x u) h k =
     record {
       must = λ θ e. k.must θ (inj_right e);
       differ = k.differ;
-      held = ⊎-both in_right in_right k.held;
-      from = λ y i. ⊎-both in_right in_right (k.from y i);
+      held = ⊎_both in_right in_right k.held;
+      from = λ y i. ⊎_both in_right in_right (k.from y i);
     }
 diff_app a b c d clash k h _ = λ θ e. h θ (inj_left e)
 diff_app a b c d (bind x u) k h _ =
     record {
       must = λ θ e. h.must θ (inj_left e);
       differ = h.differ;
-      held = ⊎-both in_left in_left h.held;
-      from = λ y i. ⊎-both in_left in_left (h.from y i);
+      held = ⊎_both in_left in_left h.held;
+      from = λ y i. ⊎_both in_left in_left (h.from y i);
     }
 
 pub diff_ok : (s t : Term) → DiffOk s t (diff s t)
@@ -184,8 +184,8 @@ in_bind1 x u n y (var z) i = go (eqb x z) refl (unfold bind1 in i)
 in_bind1 x u n y (con f) i = absurd (in_con i)
 in_bind1 x u n y (a · b) i =
     elim (in_app i) [
-      | inl l ↦ let w = in_bind1 x u n y a l in (w.0, ⊎-both in_left (λ z. z) w.1)
-      | inr r ↦ let w = in_bind1 x u n y b r in (w.0, ⊎-both in_right (λ z. z) w.1)
+      | inl l ↦ let w = in_bind1 x u n y a l in (w.0, ⊎_both in_left (λ z. z) w.1)
+      | inr r ↦ let w = in_bind1 x u n y b r in (w.0, ⊎_both in_right (λ z. z) w.1)
     ]
 
 -- ---- the unifier
@@ -223,7 +223,7 @@ module _ (s t : Term) (x : ℕ) (u : Term) (B : Bound s t x u) where
       back p = (p.0, elim p.1 [ inl q ↦ q | inr q ↦ B.from y q ])
 
       assoc : {P Q R : Type 0} → (P → R) → P ⊎ Q → R ⊎ Q
-      assoc f = ⊎-both f (λ z. z)
+      assoc f = ⊎_both f (λ z. z)
 
       seen : In y (sub (bind1 x u) s) ⊎ In y (sub (bind1 x u) t) → (y ≢ x) × ((In y s ⊎ In y t) ⊎ In y u)
       seen (inl l) = let k = in_bind1 x u n y s l in (k.0, assoc inl k.1)
