@@ -1,4 +1,4 @@
--- Laws on lines that the functions' proofs cite: bytes put into a line, and how many digits a number has. Assumes nothing.
+-- Laws on buffers that the functions' proofs cite: what was read behind a front, and how many digits a number has. Assumes nothing.
 use mathlib.Core.Path.{◌≡◌, refl, sym, ap, ◌∙◌}
 use mathlib.Core.Bool.{Bool, true, false}
 use mathlib.Core.List.{List, [], ◌∷◌, ◌++◌, append_assoc}
@@ -9,18 +9,18 @@ use native.Mathlib.Omega.{arith}
 use borrow.Author.Tests.{leb-true, leb-false}
 use lib.Dec.{leb}
 use lib.ListN.{length, take, set}
-use lib.Seq.{length-take-le, take-length, take-append-add, take_at, take-suc-set}
+use lib.Seq.{length-take-le, take-append-add, take-append-le, take-suc-set}
+use borrow.Rule.Slice.PartMut.{put_mid, post_of}
 use Rattle.io.specs.Digits.{last_digits, IsDigitCount}
 use Rattle.batch.specs.Lines.{Adds}
 
--- ---- a line up to the end of what was put into it
-pub put_in : (line bytes new kept after : List ℕ) (at : ℕ) → at ≤ length line → new ≡ take (length bytes) bytes ++ kept → take (at + length bytes) (take at line ++ (new ++ after)) ≡ take at line ++ bytes
-put_in line bytes new kept after at h e =
-    let l : at ≡ length (take at line) = sym (length-take-le at line h) in
-    let w : new ++ after ≡ bytes ++ (kept ++ after) = ap (λ (x : List ℕ). x ++ after) (e ∙ ap (λ (x : List ℕ). x ++ kept) (take-length bytes)) ∙ append_assoc bytes kept after in
-    ap (λ (x : ℕ). take (x + length bytes) (take at line ++ (new ++ after))) l
-    ∙ take-append-add (take at line) (new ++ after) (length bytes)
-    ∙ ap (λ (x : List ℕ). take at line ++ x) (ap (take (length bytes)) w ∙ take_at bytes (kept ++ after) (length bytes) refl)
+-- ---- the front of a buffer after the first n of what was put behind it
+pub grown : (at room n : ℕ) (buf new : List ℕ) → at ≤ length buf → n ≤ length new → take (at + n) (put_mid at room buf new) ≡ take at buf ++ take n new
+grown at room n buf new h k =
+    let after = post_of at room buf in
+    ap (λ (x : ℕ). take (x + n) (take at buf ++ (new ++ after))) (sym (length-take-le at buf h))
+    ∙ take-append-add (take at buf) (new ++ after) n
+    ∙ ap (take at buf ++◌) (take-append-le n new after k)
 
 -- ---- a number of 64 bits has at most 20 decimal digits
 few_case : (n k : ℕ) (b : Bool) → leb k 20 ≡ b → n < 2 ^ 64 → IsDigitCount 10 1 n k → k ≤ 20

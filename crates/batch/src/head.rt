@@ -1,5 +1,6 @@
 // The first 25 bytes of a case: one for its kind, then six numbers of four bytes, low byte first.
-ghost use Rattle.std.specs.Prelude.{◌≡◌, ◌+◌, ◌≤◌, length, IfOk};
+ghost use Rattle.std.specs.Prelude.{◌≡◌, ℕ, ◌+◌, ◌<◌, ◌≤◌, length, take, IfOk, OnErr};
+ghost use Rattle.std.specs.Io.KnownBytes.{Consumes, IsAtEnd};
 ghost use Rattle.batch.specs.Heads.{number_at, within, run_head, check_head, tables_head, head_of};
 
 use records::parts::wide;
@@ -121,15 +122,18 @@ fn head_of(kind: u8, s: &[u8; 24]) -> Head
     tables_head(kind, t, number(s, 12), number(s, 16), number(s, 20))
 }
 
-// Reads until a buffer is full or the input ends. How many bytes came?
+// Reads until a buffer is full or the input ends. How many bytes came? They stand at its front, also where a later read fails.
 pub fn read_full<R: Read>(input: &mut R, buf: &mut [u8]) -> Result<usize>
-    ensures { IfOk result (λ n. n ≤ length buf.new) }
+    ensures within { IfOk result (λ n. n ≤ length buf.new) }
+    ensures bytes { IfOk result (λ n. Consumes (R.remaining input.old) (R.remaining input.new) (take n buf.new)) }
+    ensures end { IfOk result (λ n. n < length buf.new → IsAtEnd (R.remaining input.new)) }
+    ensures err { OnErr result ((n : ℕ) × (n ≤ length buf.new) × Consumes (R.remaining input.old) (R.remaining input.new) (take n buf.new)) }
 {
     let mut done = 0;
     while done < buf.len() {
         let n = input.read(&mut buf[done..])?;
         if n == 0 {
-            break;
+            return Ok(done);
         }
         done += n;
     }

@@ -10,6 +10,7 @@ use borrow.Author.Tests.{eq-eqb, ne_eqb, lt-ltb, le-ltb, le-leb, lt-leb}
 use lib.Dec.{eqb, leb, eqb-suc-zero}
 use lib.ListN.{length, take, drop, get_or, length-drop, drop_of_length-le}
 use lib.Seq.{drop-cons, drop-drop}
+use Rattle.std.proofs.lemmas.List.{drop_more}
 use Rattle.model.specs.Term.{both}
 use Rattle.records.proofs.Laws.{less}
 use Rattle.records.specs.Symbols.{kind_of, arity_of, is_function, zeros}
@@ -40,13 +41,10 @@ module _ (sy : List ℕ) (v : ℕ) where
     unfolding good_tokens
     fact_no e f k = let q : n ≡ suc (n - 1) = omega arith in rw (e, q, drop-cons s i 0, ne_eqb _ _ k, good_tokens)
 
-    next : drop i s ≡ get_or s i 0 ∷ drop (i + 1) s
-    next = rw (add-one, drop-cons s i 0) refl
-
     fact_next : (k : ℕ) → m ≡ 0 → n ≡ suc k → kind_of sy (get_or s i 0) ≡ 1
         → good_tokens sy v m n (drop i s) ≡ good_tokens sy v (arity_of sy (get_or s i 0)) k (drop (i + 1) s)
     unfolding good_tokens
-    fact_next k e q f = rw (e, q, next, eq-eqb _ _ f, good_tokens)
+    fact_next k e q f = rw (e, q, drop_more s i 0, eq-eqb _ _ f, good_tokens)
 
     pub fact_yes : m ≡ 0 → (n ≡ 0 → ⊥) → kind_of sy (get_or s i 0) ≡ 1
         → good_tokens sy v m n (drop i s) ≡ good_tokens sy v (arity_of sy (get_or s i 0)) (n - 1) (drop (i + 1) s)
@@ -59,7 +57,7 @@ module _ (sy : List ℕ) (v : ℕ) where
     term_next : (k : ℕ) → m ≡ suc k → in_term sy v (get_or s i 0) ≡ true
         → good_tokens sy v m n (drop i s) ≡ good_tokens sy v (k + arity_of sy (get_or s i 0)) n (drop (i + 1) s)
     unfolding good_tokens
-    term_next k q f = rw (q, next, f, good_tokens)
+    term_next k q f = rw (q, drop_more s i 0, f, good_tokens)
 
     pub term_yes : (m ≡ 0 → ⊥) → in_term sy v (get_or s i 0) ≡ true
         → good_tokens sy v m n (drop i s) ≡ good_tokens sy v (m - 1 + arity_of sy (get_or s i 0)) n (drop (i + 1) s)
