@@ -1,27 +1,18 @@
-use mathlib.Core.Path.{refl, ap, ◌∙◌}
+use mathlib.Core.Path.{ap, ◌∙◌}
 use native.Mathlib.Omega.{arith}
 use Rattle.unify.specs.Forest.{find}
 use Rattle.unify.specs.Code.{down_at, root_go, root_end}
 use Rattle.unify.proofs.root.Goals as goal
 
-pub loop-p-init : goal.loop-p-init
-loop-p-init c =
-    let a = c.args in
-    (c.requires.0, c.wide16-p.ensures.0, omega (arith, down_at a.rep.now c.requires.1 a.i c.requires.0), refl)
+pub loop-x-smaller : goal.loop-x-smaller
+loop-x-smaller c = omega (arith, down_at c.args.rep.now c.requires.1 c.loop-x.x c.loop-x.invariant.0)
 
-pub loop-p-preserved : goal.loop-p-preserved
-loop-p-preserved c =
-    let a = c.args in
-    let d = c.requires.1 in
-    let l = c.loop-p in (
-      omega arith,
-      c.wide16-p-in-loop-p.ensures.0,
-      omega (arith, down_at a.rep.now d l.p (omega arith)),
-      ap (find a.rep.now) l.invariant.1 ∙ root_go a.rep.now d a.i l.x (omega arith) l.invariant.3,
-    )
+pub loop-x-preserved : goal.loop-x-preserved
+loop-x-preserved c =
+    let rep = c.args.rep.now in
+    let x = c.loop-x.x in
+    let h = c.loop-x.invariant in
+    (omega (arith, down_at rep c.requires.1 x h.0), ap (find rep) c.from-x.ensures ∙ root_go rep c.requires.1 c.args.i x h.0 h.1)
 
 pub returns : goal.returns
-returns c =
-    let a = c.args in
-    let l = c.loop-p in
-    (root_end a.rep.now a.i l.x (omega arith) (omega arith) l.invariant.3, omega arith)
+returns c = let h = c.loop-x.invariant in (root_end c.args.rep.now c.args.i c.loop-x.x h.0 (omega arith) h.1, h.0)

@@ -29,15 +29,15 @@ pub returns-then-self-r : goal.returns-then-self-r
 returns-then-self-r t c = let a = c.args in let pair = a.self.now in write_var pair.symbols.now pair.toks (facts pair.toks pair.a.now pair.b.now) a.rep.now a.cap a.o.now a.p a.i c.requires _ c.root-r.result c.root-r.ensures.0 (omega (arith, c.if-cap-p.false)) c.if-self-r.true c.put.ensures
 
 pub put-requires-2 : goal.put-requires-2
-put-requires-2 t c = (omega (arith, c.if-cap-p.false, c.requires.lo), omega (arith, c.wide.ensures.1))
+put-requires-2 t c = (omega (arith, c.if-cap-p.false, c.requires.lo), omega (arith, c.type_inv.self))
 
 pub loop-k-init : goal.loop-k-init
 loop-k-init t c =
     let a = c.args in let pair = a.self.now in (
       omega (arith, c.if-self-r.false),
       omega arith,
-      args_base (graph pair.symbols.now (facts pair.toks pair.a.now pair.b.now)) a.rep.now a.cap a.o.now _ _ a.p _ (tok (facts pair.toks pair.a.now pair.b.now) (find a.rep.now a.i)) (args_at pair.symbols.now (facts pair.toks pair.a.now pair.b.now) (suc (find a.rep.now a.i)) (arity_of pair.symbols.now (tok (facts pair.toks pair.a.now pair.b.now) (find a.rep.now a.i)))) _ (sym (base_set a.o.now _ a.p c.token-x.result (c.put-2.ensures ∙ ap (λ (v : ℕ). set a.o.now a.p v) c.wide.ensures.0)))
-          (args_start pair.symbols.now pair.toks (facts pair.toks pair.a.now pair.b.now) a.rep.now a.cap a.o.now a.p a.i c.requires _ c.root-r.result c.token-x.result _ c.root-r.ensures.0 (omega (arith, c.if-self-r.false)) (omega (arith, c.if-cap-p.false)) c.token-x.ensures (c.put-2.ensures ∙ ap (λ (v : ℕ). set a.o.now a.p v) c.wide.ensures.0) c.arity-n.ensures.0),
+      args_base (graph pair.symbols.now (facts pair.toks pair.a.now pair.b.now)) a.rep.now a.cap a.o.now _ _ a.p _ (tok (facts pair.toks pair.a.now pair.b.now) (find a.rep.now a.i)) (args_at pair.symbols.now (facts pair.toks pair.a.now pair.b.now) (suc (find a.rep.now a.i)) (arity_of pair.symbols.now (tok (facts pair.toks pair.a.now pair.b.now) (find a.rep.now a.i)))) _ (sym (base_set a.o.now _ a.p c.token-x.result (c.put-2.ensures ∙ ap (λ (v : ℕ). set a.o.now a.p v) c.from.ensures)))
+          (args_start pair.symbols.now pair.toks (facts pair.toks pair.a.now pair.b.now) a.rep.now a.cap a.o.now a.p a.i c.requires _ c.root-r.result c.token-x.result _ c.root-r.ensures.0 (omega (arith, c.if-self-r.false)) (omega (arith, c.if-cap-p.false)) c.token-x.ensures (c.put-2.ensures ∙ ap (λ (v : ℕ). set a.o.now a.p v) c.from.ensures) c.arity-n.ensures.0),
       refl,
     )
 
@@ -62,7 +62,7 @@ shape_of-o-then-cap-f t c = c.write-f.auto.o ∙ c.loop-k.invariant.3 ∙ c.put-
 pub returns-then-cap-f : goal.returns-then-cap-f
 returns-then-cap-f t c =
     let a = c.args in let pair = a.self.now in
-    places_short pair.symbols.now pair.toks (facts pair.toks pair.a.now pair.b.now) a.rep.now a.cap a.o.now a.p a.i c.requires (omega (arith, c.if-self-r.false, c.root-r.ensures.0)) c.loop-k.o c.loop-k.e c.loop-k.q _ c.loop-k.k (args_base (graph pair.symbols.now (facts pair.toks pair.a.now pair.b.now)) a.rep.now a.cap _ a.o.now c.loop-k.o a.p c.loop-k.e (tok (facts pair.toks pair.a.now pair.b.now) (find a.rep.now a.i)) (args_at pair.symbols.now (facts pair.toks pair.a.now pair.b.now) (suc (find a.rep.now a.i)) (arity_of pair.symbols.now (tok (facts pair.toks pair.a.now pair.b.now) (find a.rep.now a.i)))) _ (base_set a.o.now _ a.p c.token-x.result (c.put-2.ensures ∙ ap (λ (v : ℕ). set a.o.now a.p v) c.wide.ensures.0)) c.loop-k.invariant.2)
+    places_short pair.symbols.now pair.toks (facts pair.toks pair.a.now pair.b.now) a.rep.now a.cap a.o.now a.p a.i c.requires (omega (arith, c.if-self-r.false, c.root-r.ensures.0)) c.loop-k.o c.loop-k.e c.loop-k.q _ c.loop-k.k (args_base (graph pair.symbols.now (facts pair.toks pair.a.now pair.b.now)) a.rep.now a.cap _ a.o.now c.loop-k.o a.p c.loop-k.e (tok (facts pair.toks pair.a.now pair.b.now) (find a.rep.now a.i)) (args_at pair.symbols.now (facts pair.toks pair.a.now pair.b.now) (suc (find a.rep.now a.i)) (arity_of pair.symbols.now (tok (facts pair.toks pair.a.now pair.b.now) (find a.rep.now a.i)))) _ (base_set a.o.now _ a.p c.token-x.result (c.put-2.ensures ∙ ap (λ (v : ℕ). set a.o.now a.p v) c.from.ensures)) c.loop-k.invariant.2)
     _ _ c.write-f.result c.node_at.result c.loop-k-test.true c.loop-k.invariant.0 c.node_at.ensures.0 c.if-cap-f.true c.write-f.ensures
 
 pub past-q-requires : goal.past-q-requires
@@ -85,4 +85,4 @@ shape_of-o t c = c.loop-k.invariant.3 ∙ c.put-2.auto.o
 pub returns : goal.returns
 returns t c =
     let a = c.args in let pair = a.self.now in
-    places_end pair.symbols.now pair.toks (facts pair.toks pair.a.now pair.b.now) a.rep.now a.cap a.o.now a.p a.i c.requires (omega (arith, c.if-self-r.false, c.root-r.ensures.0)) c.loop-k.o c.loop-k.e c.loop-k.q _ c.loop-k.k (args_base (graph pair.symbols.now (facts pair.toks pair.a.now pair.b.now)) a.rep.now a.cap _ a.o.now c.loop-k.o a.p c.loop-k.e (tok (facts pair.toks pair.a.now pair.b.now) (find a.rep.now a.i)) (args_at pair.symbols.now (facts pair.toks pair.a.now pair.b.now) (suc (find a.rep.now a.i)) (arity_of pair.symbols.now (tok (facts pair.toks pair.a.now pair.b.now) (find a.rep.now a.i)))) _ (base_set a.o.now _ a.p c.token-x.result (c.put-2.ensures ∙ ap (λ (v : ℕ). set a.o.now a.p v) c.wide.ensures.0)) c.loop-k.invariant.2) (omega (arith, c.loop-k-test.false))
+    places_end pair.symbols.now pair.toks (facts pair.toks pair.a.now pair.b.now) a.rep.now a.cap a.o.now a.p a.i c.requires (omega (arith, c.if-self-r.false, c.root-r.ensures.0)) c.loop-k.o c.loop-k.e c.loop-k.q _ c.loop-k.k (args_base (graph pair.symbols.now (facts pair.toks pair.a.now pair.b.now)) a.rep.now a.cap _ a.o.now c.loop-k.o a.p c.loop-k.e (tok (facts pair.toks pair.a.now pair.b.now) (find a.rep.now a.i)) (args_at pair.symbols.now (facts pair.toks pair.a.now pair.b.now) (suc (find a.rep.now a.i)) (arity_of pair.symbols.now (tok (facts pair.toks pair.a.now pair.b.now) (find a.rep.now a.i)))) _ (base_set a.o.now _ a.p c.token-x.result (c.put-2.ensures ∙ ap (λ (v : ℕ). set a.o.now a.p v) c.from.ensures)) c.loop-k.invariant.2) (omega (arith, c.loop-k-test.false))

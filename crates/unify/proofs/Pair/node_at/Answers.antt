@@ -1,29 +1,25 @@
 -- `node_at` gives the node of a place. Assumes nothing.
-use mathlib.Core.Path.{◌∙◌}
 use native.Mathlib.Omega.{arith}
-use Rattle.unify.specs.Facts.{facts, facts_length}
+use Rattle.unify.specs.Pairs.{tokens_of, tokens_long}
 use Rattle.unify.specs.Code.{node_left, node_right, node_sym}
 use Rattle.unify.proofs.Pair.node_at.Goals as goal
 
+pub returns-then-x-ge-FIRST_SYMBOL : goal.returns-then-x-ge-FIRST_SYMBOL
+returns-then-x-ge-FIRST_SYMBOL c =
+    let pair = c.args.self.now in
+    let x = c.token-x.ensures in
+    (node_sym (tokens_of pair) c.args.p (omega arith), omega arith)
+
 pub returns-then-p-self : goal.returns-then-p-self
 returns-then-p-self c =
-    let a = c.args in let pair = a.self.now in
-    let ts = facts pair.toks pair.a.now pair.b.now in
-    let l = facts_length pair.toks pair.a.now pair.b.now pair.given in
-    let e = c.wide-x.ensures.0 ∙ c.token.ensures in
-    (omega (arith, node_left ts a.p (omega arith) (omega arith)), omega arith)
+    let pair = c.args.self.now in
+    let l = tokens_long pair in
+    let x = c.token-x.ensures in
+    (omega (arith, node_left (tokens_of pair) c.args.p (omega arith) (omega arith)), omega arith)
 
-pub returns-then-x-lt64 : goal.returns-then-x-lt64
-returns-then-x-lt64 c =
-    let a = c.args in let pair = a.self.now in
-    let ts = facts pair.toks pair.a.now pair.b.now in
-    let l = facts_length pair.toks pair.a.now pair.b.now pair.given in
-    let e = c.wide-x.ensures.0 ∙ c.token.ensures in
-    (omega (arith, node_right ts a.p (omega arith) (omega arith)), omega arith)
-
-pub returns : goal.returns
-returns c =
-    let a = c.args in let pair = a.self.now in
-    let ts = facts pair.toks pair.a.now pair.b.now in
-    let e = c.wide-x.ensures.0 ∙ c.token.ensures in
-    (node_sym ts a.p (omega arith), omega arith)
+pub returns-else-p-self : goal.returns-else-p-self
+returns-else-p-self c =
+    let pair = c.args.self.now in
+    let l = tokens_long pair in
+    let x = c.token-x.ensures in
+    (omega (arith, node_right (tokens_of pair) c.args.p (omega arith) (omega arith)), omega arith)

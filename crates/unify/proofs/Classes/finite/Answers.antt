@@ -1,0 +1,25 @@
+use mathlib.Core.Path.{sym, ◌∙◌}
+use native.Mathlib.Omega.{arith}
+use Rattle.unify.specs.Pairs.{nodes_of, tokens_long}
+use Rattle.unify.specs.Whole.{marked_open, marked_done, far_start, far_next}
+use Rattle.unify.proofs.Classes.finite.Goals as goal
+
+pub loop-v-init : goal.loop-v-init
+loop-v-init c =
+    let a = c.args in
+    let e = c.fill.ensures.len ∙ c.requires in
+    (e, far_start (nodes_of a.self.now.pair) a.self.now.rep.now _ _ _ (sym (tokens_long a.self.now.pair)) (c.fill.ensures.after (λ y q. q)))
+
+pub look-requires : goal.look-requires
+look-requires c =
+    let a = c.args in
+    let M = c.loop-v.invariant.1.marked in
+    record { long = c.loop-v.invariant.0; node = omega (arith, c.loop-v-test.true, a.self.now.long); done = marked_done _ _ _ M; opened = marked_open _ _ _ _ M }
+
+pub loop-v-preserved : goal.loop-v-preserved
+loop-v-preserved c =
+    let a = c.args in
+    (c.look.auto.marks ∙ c.loop-v.invariant.0, far_next (nodes_of a.self.now.pair) a.self.now.rep.now c.loop-v.marks _ c.loop-v.v c.loop-v.invariant.1 c.if-look.ensures)
+
+pub returns : goal.returns
+returns c = λ x l k. c.loop-v.invariant.1.reads x l (omega (arith, c.loop-v-test.false, tokens_long c.args.self.now.pair, c.args.self.now.long))
