@@ -5,11 +5,11 @@ ghost use Rattle.unify.specs.Forest.{Down, down_prop, find};
 ghost use Rattle.unify.specs.Nodes.{node, Past};
 ghost use Rattle.unify.specs.Facts.{Given};
 ghost use Rattle.unify.specs.Merge.{Answer};
-ghost use Rattle.unify.specs.Inside.{Done, Open};
+ghost use Rattle.unify.specs.Inside.{Read, Done, Open};
 ghost use Rattle.unify.specs.Look.{Found};
 ghost use Rattle.unify.specs.Solve.{Fresh};
 ghost use Rattle.unify.specs.Whole.{Tested, Differs, Unifies};
-ghost use Rattle.unify.specs.Writer.{Asked, Writes};
+ghost use Rattle.unify.specs.Writer.{Writes};
 
 use records::symbols::arity;
 
@@ -58,14 +58,6 @@ fn root(rep: &[u16], i: usize) -> usize
         x = usize::from(rep[x]);
     }
     x
-}
-
-// Writes one code.
-fn put(o: &mut [u16], p: usize, v: usize)
-    requires { (p < length o.old) × (v < 65536) }
-    ensures { o.new ≡ set o.old p v }
-{
-    o[p] = v as u16;
 }
 
 // Each node a class by itself.
@@ -198,38 +190,6 @@ impl<'a> Pair<'a> {
         let classes = Classes { pair: *self, rep };
         classes.finite(marks).then_some(at)
     }
-
-    // Writes the codes of the term of the node i from p on, and returns the place behind them; cap + 1 where that is past cap.
-    // The code of a symbol is its token, that of a variable's class 256 and more.
-    pub fn write(&self, rep: &[u16], o: &mut [u16], p: usize, cap: usize, i: usize) -> usize
-        requires { Asked self.now.symbols.now self.now.toks (tokens_of self.now) rep.now cap o.old p i }
-        ensures { Writes (nodes_of self.now) rep.now i cap o.old o.new p result }
-    {
-        if cap <= p {
-            return cap + 1;
-        }
-        let r = root(rep, i);
-        if 2 * self.toks <= r {
-            put(o, p, r - 2 * self.toks + 256);
-            return p + 1;
-        }
-        let x = self.token(r);
-        put(o, p, usize::from(x));
-        let n = arity(self.symbols, x);
-        let mut e = p + 1;
-        let mut q = r + 1;
-        let mut k: usize = 0;
-        while k < n {
-            let f = self.write(rep, o, e, cap, self.node_at(q));
-            if cap < f {
-                return cap + 1;
-            }
-            e = f;
-            q = self.past(q);
-            k += 1;
-        }
-        e
-    }
 }
 
 impl<'a> Classes<'a> {
@@ -274,5 +234,31 @@ impl<'a> Classes<'a> {
             }
         }
         true
+    }
+
+    /// Writes the codes of the term of the node i, and returns their number; `None` where `out` has no room for them.
+    /// The code of a symbol is its token, that of a variable's class 256 and more.
+    pub fn write(&self, out: &mut [u16], i: usize) -> Option<usize>
+        requires node { i < 2 * self.now.pair.toks + 128 }
+        requires read { Read (nodes_of self.now.pair) self.now.rep.now i }
+        ensures { Writes (nodes_of self.now.pair) self.now.rep.now i out.new result }
+    {
+        if out.is_empty() {
+            return None;
+        }
+        let r = root(self.rep, i);
+        if 2 * self.pair.toks <= r {
+            out[0] = (r - 2 * self.pair.toks + 256) as u16;
+            return Some(1);
+        }
+        let x = self.pair.token(r);
+        out[0] = u16::from(x);
+        let mut len = 1;
+        let mut p = r + 1;
+        for _ in 0..arity(self.pair.symbols, x) {
+            len += self.write(&mut out[len..], self.pair.node_at(p))?;
+            p = self.pair.past(p);
+        }
+        Some(len)
     }
 }
