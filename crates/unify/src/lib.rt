@@ -16,6 +16,9 @@ use records::symbols::arity;
 // The token of the first symbol; those below it are variables.
 const FIRST_SYMBOL: u8 = 64;
 
+/// The code of the first class without a symbol; a code below it is a symbol's token.
+pub const FIRST_VARIABLE: usize = 256;
+
 // The marks of nodes in a walk. They are bytes, since a narrower type would ask more of callers, who lend the table.
 const NEW: u8 = 0;
 
@@ -73,7 +76,8 @@ fn fresh(rep: &mut [u16])
 impl<'a> Pair<'a> {
     ghost use Rattle.unify.specs.Pairs.{tokens_of, nodes_of};
 
-    // The token at a place: those of a come first, then those of b; 0 past the end.
+    #[tactic(auto, using(crate::specs::Facts::fact_left, crate::specs::Facts::fact_right, crate::specs::Facts::fact_past))]
+    /// The token at a place: those of a come first, then those of b; 0 past the end.
     pub fn token(&self, p: usize) -> u8
         ensures { result ≡ get_or (tokens_of self.now) p 0 }
     {
@@ -86,7 +90,7 @@ impl<'a> Pair<'a> {
         }
     }
 
-    // A variable is one node wherever it stands on its side; a symbol is a node by its place.
+    /// The node at a place: a variable is one node wherever it stands on its side; a symbol is a node by its place.
     pub fn node_at(&self, p: usize) -> usize
         requires { p ≤ 2 * self.now.toks }
         ensures { (result ≡ node (tokens_of self.now) p) × (result < 2 * self.now.toks + 128) }
@@ -141,7 +145,9 @@ impl<'a> Pair<'a> {
 
     // Unites the classes of two nodes, and of their arguments in pairs; false where two symbols differ.
     fn merge(&self, rep: &mut [u16], i: usize, j: usize) -> bool
-        requires { (length rep.old ≡ 2 * self.now.toks + 128) × (Down rep.old × ((i < 2 * self.now.toks + 128) × (j < 2 * self.now.toks + 128))) }
+        requires long { length rep.old ≡ 2 * self.now.toks + 128 }
+        requires down { Down rep.old }
+        requires nodes { (i < 2 * self.now.toks + 128) × (j < 2 * self.now.toks + 128) }
         ensures { Answer (nodes_of self.now) rep.old rep.new i j result }
     {
         let r = root(rep, i);
@@ -173,9 +179,11 @@ impl<'a> Pair<'a> {
         true
     }
 
-    // Unifies the fact at the start of a with the one at the place `at` of b. Where they do, `rep` holds the classes of a most general unifier.
+    /// Unifies the fact at the start of a with the one at the place `at` of b, and returns that place.
+    /// Where they unify, `rep` holds the classes of a most general unifier.
     pub fn unify(&self, at: usize, rep: &mut [u16], marks: &mut [u8]) -> Option<usize>
-        requires { (length rep.old ≡ 2 * self.now.toks + 128) × ((length marks.old ≡ 2 * self.now.toks + 128) × (at ≤ self.now.toks)) }
+        requires rooms { (length rep.old ≡ 2 * self.now.toks + 128) × (length marks.old ≡ 2 * self.now.toks + 128) }
+        requires place { at ≤ self.now.toks }
         ensures { Unifies self.now.symbols.now self.now.toks self.now.a.now self.now.b.now at rep.new result }
     {
         if self.apart(at) {
@@ -237,7 +245,7 @@ impl<'a> Classes<'a> {
     }
 
     /// Writes the codes of the term of the node i, and returns their number; `None` where `out` has no room for them.
-    /// The code of a symbol is its token, that of a variable's class 256 and more.
+    /// The code of a symbol is its token, that of a variable's class `FIRST_VARIABLE` and more.
     pub fn write(&self, out: &mut [u16], i: usize) -> Option<usize>
         requires node { i < 2 * self.now.pair.toks + 128 }
         requires read { Read (nodes_of self.now.pair) self.now.rep.now i }
@@ -248,7 +256,7 @@ impl<'a> Classes<'a> {
         }
         let r = root(self.rep, i);
         if 2 * self.pair.toks <= r {
-            out[0] = (r - 2 * self.pair.toks + 256) as u16;
+            out[0] = (r - 2 * self.pair.toks + FIRST_VARIABLE) as u16;
             return Some(1);
         }
         let x = self.pair.token(r);

@@ -10,12 +10,6 @@ loop-v-init c =
     let e = c.fill.ensures.len ∙ c.requires in
     (e, far_start (nodes_of a.self.now.pair) a.self.now.rep.now _ _ _ (sym (tokens_long a.self.now.pair)) (c.fill.ensures.after (λ y q. q)))
 
-pub look-requires : goal.look-requires
-look-requires c =
-    let a = c.args in
-    let M = c.loop-v.invariant.1.marked in
-    record { long = c.loop-v.invariant.0; node = omega (arith, c.loop-v-test.true, a.self.now.long); done = marked_done _ _ _ M; opened = marked_open _ _ _ _ M }
-
 pub loop-v-preserved : goal.loop-v-preserved
 loop-v-preserved c =
     let a = c.args in

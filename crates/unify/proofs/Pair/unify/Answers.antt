@@ -7,17 +7,17 @@ use Rattle.unify.specs.Pairs.{tokens_of, nodes_of, tokens_long}
 use Rattle.unify.proofs.Pair.unify.Goals as goal
 
 pub merge-requires : goal.merge-requires
-merge-requires c = (c.fresh.auto.rep ∙ c.requires.0, (start_down (nodes_of c.args.self.now) 0 0 _ c.fresh.ensures, (c.node_at-i.ensures.1, c.node_at-j.ensures.1)))
+merge-requires c = record { long = c.fresh.auto.rep ∙ c.requires.rooms.0; down = start_down (nodes_of c.args.self.now) 0 0 _ c.fresh.ensures; nodes = (c.node_at-i.ensures.1, c.node_at-j.ensures.1) }
 
 pub returns-then-not-merge : goal.returns-then-not-merge
 returns-then-not-merge c =
     let p = c.args.self.now in
     answers_at (nodes_of p) c.merge.new.rep c.args.at None _ _ _ _ c.node_at-i.ensures.0 c.node_at-j.ensures.0
-    (whole_clash p.symbols.now p.toks (tokens_of p) _ _ _ _ (tokens_long p) (c.merge.auto.rep ∙ c.fresh.auto.rep ∙ c.requires.0) c.fresh.ensures c.if-not-merge.ensures)
+    (whole_clash p.symbols.now p.toks (tokens_of p) _ _ _ _ (tokens_long p) (c.merge.auto.rep ∙ c.fresh.auto.rep ∙ c.requires.rooms.0) c.fresh.ensures c.if-not-merge.ensures)
 
 pub returns : goal.returns
 returns c =
     let p = c.args.self.now in
     rw c.then_some.ensures
     (answers_at (nodes_of p) _ c.args.at _ _ _ _ _ c.node_at-i.ensures.0 c.node_at-j.ensures.0
-    (whole p.symbols.now p.toks (tokens_of p) _ _ _ _ (tokens_long p) (c.merge.auto.rep ∙ c.fresh.auto.rep ∙ c.requires.0) c.fresh.ensures c.args.at c.if-not-merge.ensures _ c.finite.ensures))
+    (whole p.symbols.now p.toks (tokens_of p) _ _ _ _ (tokens_long p) (c.merge.auto.rep ∙ c.fresh.auto.rep ∙ c.requires.rooms.0) c.fresh.ensures c.args.at c.if-not-merge.ensures _ c.finite.ensures))
