@@ -52,6 +52,7 @@ pub struct Classes<'a> {
 }
 
 // The root of a node's class.
+#[tactic(auto, using(crate::specs::Code::down_at, crate::specs::Code::root_go, crate::specs::Code::root_end))]
 fn root(rep: &[u16], i: usize) -> usize
     requires { (i < length rep.now) × Down rep.now }
     ensures { (result ≡ find rep.now i) × (result < length rep.now) }
@@ -64,6 +65,7 @@ fn root(rep: &[u16], i: usize) -> usize
 }
 
 // Each node a class by itself.
+#[tactic(auto, using(crate::specs::Whole::own_none, crate::specs::Whole::own_more, crate::specs::Whole::own_fresh))]
 fn fresh(rep: &mut [u16])
     requires { length rep.old ≤ 65536 }
     ensures { Fresh rep.new }
@@ -76,8 +78,8 @@ fn fresh(rep: &mut [u16])
 impl<'a> Pair<'a> {
     ghost use Rattle.unify.specs.Pairs.{tokens_of, nodes_of};
 
-    #[tactic(auto, using(crate::specs::Facts::fact_left, crate::specs::Facts::fact_right, crate::specs::Facts::fact_past))]
     /// The token at a place: those of a come first, then those of b; 0 past the end.
+    #[tactic(auto, using(crate::specs::Facts::fact_left, crate::specs::Facts::fact_right, crate::specs::Facts::fact_past))]
     pub fn token(&self, p: usize) -> u8
         ensures { result ≡ get_or (tokens_of self.now) p 0 }
     {
@@ -91,6 +93,7 @@ impl<'a> Pair<'a> {
     }
 
     /// The node at a place: a variable is one node wherever it stands on its side; a symbol is a node by its place.
+    #[tactic(auto, using(crate::specs::Code::node_left, crate::specs::Code::node_right, crate::specs::Code::node_sym, crate::specs::Pairs::tokens_long))]
     pub fn node_at(&self, p: usize) -> usize
         requires { p ≤ 2 * self.now.toks }
         ensures { (result ≡ node (tokens_of self.now) p) × (result < 2 * self.now.toks + 128) }
@@ -104,6 +107,7 @@ impl<'a> Pair<'a> {
     }
 
     // The place past the term at p.
+    #[tactic(auto, using(crate::specs::Code::past_again, crate::specs::Pairs::tokens_long))]
     fn past(&self, p: usize) -> usize
         requires { p ≤ 2 * self.now.toks }
         ensures { Past self.now.symbols.now (tokens_of self.now) p result }
@@ -120,6 +124,7 @@ impl<'a> Pair<'a> {
     }
 
     // Do two facts begin with different symbols, or their first arguments? Then nothing unifies them.
+    #[tactic(auto, using(crate::specs::Whole::heads_differ, crate::specs::Whole::firsts_differ, crate::specs::Whole::apart_where))]
     fn apart(&self, at: usize) -> bool
         requires { at ≤ self.now.toks }
         ensures { Differs self.now.symbols.now self.now.toks self.now.a.now self.now.b.now at result }
@@ -231,6 +236,7 @@ impl<'a> Classes<'a> {
     }
 
     // Does no variable stand inside its own term?
+    #[tactic(auto, using(crate::specs::Pairs::tokens_long))]
     fn finite(&self, marks: &mut [u8]) -> bool
         requires { length marks.old ≡ 2 * self.now.pair.toks + 128 }
         ensures { Tested (nodes_of self.now.pair) self.now.rep.now result }

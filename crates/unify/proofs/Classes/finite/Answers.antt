@@ -1,7 +1,6 @@
 use mathlib.Core.Path.{sym, ◌∙◌}
-use native.Mathlib.Omega.{arith}
 use Rattle.unify.specs.Pairs.{nodes_of, tokens_long}
-use Rattle.unify.specs.Whole.{marked_open, marked_done, far_start, far_next}
+use Rattle.unify.specs.Whole.{far_start, far_next}
 use Rattle.unify.proofs.Classes.finite.Goals as goal
 
 pub loop-v-init : goal.loop-v-init
@@ -14,6 +13,3 @@ pub loop-v-preserved : goal.loop-v-preserved
 loop-v-preserved c =
     let a = c.args in
     (c.look.auto.marks ∙ c.loop-v.invariant.0, far_next (nodes_of a.self.now.pair) a.self.now.rep.now c.loop-v.marks _ c.loop-v.v c.loop-v.invariant.1 c.if-look.ensures)
-
-pub returns : goal.returns
-returns c = λ x l k. c.loop-v.invariant.1.reads x l (omega (arith, c.loop-v-test.false, tokens_long c.args.self.now.pair, c.args.self.now.long))

@@ -6,8 +6,8 @@ use Rattle.unify.specs.Whole.{answers_at, whole_clash, whole}
 use Rattle.unify.specs.Pairs.{tokens_of, nodes_of, tokens_long}
 use Rattle.unify.proofs.Pair.unify.Goals as goal
 
-pub merge-requires : goal.merge-requires
-merge-requires c = record { long = c.fresh.auto.rep ∙ c.requires.rooms.0; down = start_down (nodes_of c.args.self.now) 0 0 _ c.fresh.ensures; nodes = (c.node_at-i.ensures.1, c.node_at-j.ensures.1) }
+pub merge-requires-clause-down : goal.merge-requires-clause-down
+merge-requires-clause-down c = start_down (nodes_of c.args.self.now) 0 0 _ c.fresh.ensures
 
 pub returns-then-not-merge : goal.returns-then-not-merge
 returns-then-not-merge c =
