@@ -1,6 +1,6 @@
 #![tactic(auto)]
 
-ghost use Rattle.std.specs.Prelude.{◌≡◌, ℕ, ◌+◌, ◌-◌, ◌*◌, ◌≤◌, ◌<◌, min, max, length, get_or, set};
+ghost use Rattle.std.specs.Prelude.{◌≡◌, ◌+◌, ◌*◌, ◌≤◌, ◌<◌, length, get_or};
 ghost use Rattle.unify.specs.Forest.{Down, down_prop, find};
 ghost use Rattle.unify.specs.Nodes.{node, Past};
 ghost use Rattle.unify.specs.Facts.{Given};
@@ -26,26 +26,26 @@ const OPEN: u8 = 1;
 
 const DONE: u8 = 2;
 
-/// The tokens of two records, with the table of symbols: what the unifier reads.
+/// Two records and the table of symbols: what the unifier reads.
 #[derive(Clone, Copy)]
 pub struct Pair<'a> {
-    /// The arities of the symbols.
+    /// The table of symbols.
     pub symbols: &'a [u8],
-    /// The record whose fact at the start unifies.
+    /// The first record: the fact at its start unifies.
     pub a: &'a [u8],
-    /// The record whose fact at a place unifies.
+    /// The second record: one of its facts unifies.
     pub b: &'a [u8],
     /// The room for tokens in each record.
     pub toks: usize,
     pub ghost given: { Given toks a.now b.now },
 }
 
-/// The classes that `unify` made of the nodes of two records.
+/// The nodes of two records in classes, as `unify` leaves them.
 #[derive(Clone, Copy)]
 pub struct Classes<'a> {
     /// The two records.
     pub pair: Pair<'a>,
-    /// For each node one below it in its class; a root has itself.
+    /// For each node a lower one of its class; the lowest, the root, has itself.
     pub rep: &'a [u16],
     pub ghost long: { length rep.now ≡ 2 * pair.toks + 128 },
     pub ghost down: { Down rep.now } by { down_prop rep.now },
