@@ -51,7 +51,7 @@ pub struct Classes<'a> {
     pub ghost down: { Down rep.now } by { down_prop rep.now },
 }
 
-// The root of a node's class.
+// The root of a node's class: the loop follows links and counts nothing.
 #[tactic(auto, using(crate::specs::Code::down_at, crate::specs::Code::root_go, crate::specs::Code::root_end))]
 fn root(rep: &[u16], i: usize) -> usize
     requires { (i < length rep.now) × Down rep.now }
