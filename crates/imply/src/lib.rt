@@ -82,20 +82,21 @@ impl<'a> Target<'a> {
     fn carried(&self, r: &[u8], k: usize, used: u32, binds: [u16; 64]) -> bool
         ensures { result ≡ carried_by (arity_of self.now.symbols.now) (tokens_of r.now) (tokens_of self.now.record.now) (get_or self.now.record.now 0 0) k (get_or r.now 0 0 - k) used binds }
     {
+        let Target { symbols, record } = *self;
         if usize::from(hypotheses(r)) <= k {
             return true;
         }
-        let hyp = terms::hypothesis(self.symbols, r, k);
-        let text = text_of(self.record);
-        let mut next = terms::fact_start(self.symbols, text, 1);
-        for j in 0..u32::from(hypotheses(self.record)) {
+        let hyp = terms::hypothesis(symbols, r, k);
+        let text = text_of(record);
+        let mut next = terms::fact_start(symbols, text, 1);
+        for j in 0..u32::from(hypotheses(record)) {
             let at = next;
-            next += terms::span(self.symbols, text, at, 1);
+            next += terms::span(symbols, text, at, 1);
             if !is_free(used, j) || !may_match(hyp, text, at) {
                 continue;
             }
             let mut mine = binds;
-            if matching::match_at(self.symbols, hyp, text, at, &mut mine)
+            if matching::match_at(symbols, hyp, text, at, &mut mine)
                 && self.carried(r, k + 1, mark(used, j), mine)
             {
                 return true;
