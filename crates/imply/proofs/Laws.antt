@@ -1,20 +1,16 @@
 -- Laws of implication that the functions' proofs cite: a turn of each loop, its end, and what rules an implication out. Assumes nothing.
 use mathlib.Core.Path.{◌≡◌, refl, sym, ap, ap₂, ◌∙◌}
 use mathlib.Core.Bool.{Bool, true, false}
-use mathlib.Core.Option.{none, some}
+use mathlib.Core.Option.{Option, none, some}
 use mathlib.Core.List.{List, [], ◌∷◌, ◌++◌}
-use Prim.Native.Nat.{ℕ, zero, suc, ◌+◌, ◌-◌, ◌*◌, ◌^◌, ◌%◌, ◌≤◌, ◌<◌, min}
-use native.Mathlib.Nat.{mod-eq_of_lt}
+use Prim.Native.Nat.{ℕ, zero, suc, ◌+◌, ◌-◌, ◌≤◌, ◌<◌, min}
 use native.Mathlib.Numerals.{add-one}
 use native.Mathlib.Omega.{arith}
 use borrow.Author.Tests.{eq-eqb, ne_eqb, lt-ltb, le-ltb, le-leb, lt-leb, eqb-true, eqb-false, leb-false}
 use lib.Dec.{eqb, leb, ltb}
-use lib.Bits.{bit_or}
-use lib.Pow.{pow-lt}
 use lib.ListN.{length, take, drop, get_or, length-take, drop_of_length-le}
 use lib.Seq.{drop-nil}
 use Rattle.std.proofs.lemmas.List.{append-nil, drop_more, take_at, drop_at, take_all, drop_all, length-append, get_or_append_left}
-use Rattle.std.specs.Prelude.{◌≢◌}
 use Rattle.model.specs.Term.{both}
 use Rattle.theory.specs.Basics.{true≢false}
 use Rattle.records.specs.Symbols.{arity_of}
@@ -29,10 +25,6 @@ use Rattle.imply.specs.ImplyLaws.{used_here, used_other}
 use Rattle.imply.specs.Filter.{may_match, has_place, may_imply}
 
 -- ---- sets
-pub used_is : (u j : ℕ) → j < 32 → bit_or u ((1 * 2 ^ j) % 4294967296) ≡ used_by u j
-unfolding used_by
-used_is u j h = let e : 1 * 2 ^ j ≡ 2 ^ j = omega arith in rw (e, mod-eq_of_lt (pow-lt {i = j} {j = 32} h))
-
 -- How many of the k numbers from i on are not in the set u.
 frees : ℕ → ℕ → ℕ → ℕ
 frees u i zero = 0
@@ -81,19 +73,6 @@ frees_used u j i (suc k) g h f = ap suc (frees_suc (used_by u j) i k) ∙ go (eq
         swap (free (used_by u j) i) (frees (used_by u j) (suc i) k) ∙ ap₂ counted (used_other u j i n) (rec (omega arith))
 
 -- ---- one of several numbers
-module _ (f : ℕ → Bool) (n j : ℕ) where
-  pub any_no : j < n → f j ≡ false → any f j (n - j) ≡ any f (j + 1) (n - (j + 1))
-  unfolding any
-  any_no h e = rw (less n j h, e, any, add-one)
-
-  pub any_yes : j < n → f j ≡ true → any f j (n - j) ≡ true
-  unfolding any
-  any_yes h e = rw (less n j h, e, any)
-
-  pub any_end : n ≤ j → any f j (n - j) ≡ false
-  unfolding any
-  any_end h = let e : n - j ≡ 0 = omega arith in rw e
-
 any_none : (f : ℕ → Bool) (j k : ℕ) → ((i : ℕ) → j ≤ i → i < j + k → f i ≡ false) → any f j k ≡ false
 unfolding any
 any_none f j zero h = refl
@@ -137,25 +116,7 @@ unmatched ar (t ∷ ts) text p b e = go (ltb t 64) (eqb t (get_or text p 0)) ref
     go false true q w f rec = rw (q, w, matched) (rec f)
     go false false q w f rec = rw (q, w, matched)
 
--- Token i of a pattern, against the text at p.
-module _ (pat text : List ℕ) (i p : ℕ) where
-  pub lead_var : i < length pat → get_or pat i 0 < 64 → may_match (drop i pat) text p ≡ true
-  unfolding may_match
-  lead_var h l = rw (drop_more pat i 0 h, lt-ltb (get_or pat i 0) 64 l, may_match)
-
-  pub lead_no : i < length pat → 64 ≤ get_or pat i 0 → get_or pat i 0 ≢ get_or text p 0 → may_match (drop i pat) text p ≡ false
-  unfolding may_match
-  lead_no h l n = rw (drop_more pat i 0 h, le-ltb (get_or pat i 0) 64 l, ne_eqb (get_or pat i 0) (get_or text p 0) n, may_match)
-
-  pub lead_yes : (n : ℕ) → n ≡ p + 1 → i < length pat → 64 ≤ get_or pat i 0 → get_or pat i 0 ≡ get_or text p 0 → may_match (drop i pat) text p ≡ may_match (drop (i + 1) pat) text n
-  unfolding may_match
-  lead_yes n en h l e = rw (drop_more pat i 0 h, le-ltb (get_or pat i 0) 64 l, eq-eqb (get_or pat i 0) (get_or text p 0) e, en, add-one p, may_match)
-
-  pub lead_end : length pat ≤ i → may_match (drop i pat) text p ≡ true
-  unfolding may_match
-  lead_end h = rw (drop_of_length-le pat h)
-
-pub ruleset leads = (lead_var, lead_no, lead_yes, lead_end)
+pub ruleset lead = (drop_more, drop_of_length-le, lt-ltb, le-ltb, eq-eqb, ne_eqb)
 
 -- ---- one hypothesis into another
 module _ (ar : ℕ → ℕ) (rt qt : List ℕ) (k u : ℕ) (b : List ℕ) (rest : ℕ → List ℕ → Bool) (j : ℕ) where
@@ -205,7 +166,7 @@ module _ (ar : ℕ → ℕ) (rt qt : List ℕ) (m : ℕ) where
       ] refl)
 
 module _ (sy r q : List ℕ) where
-  pub implies_placeless : (h : ℕ) → h < get_or r 0 0 → has_place (arity_of sy) (tokens_of q) (get_or q 0 0) (fact_at (arity_of sy) (suc h) (tokens_of r)) ≡ false → implies_bytes sy r q ≡ false
+  implies_placeless : (h : ℕ) → h < get_or r 0 0 → has_place (arity_of sy) (tokens_of q) (get_or q 0 0) (fact_at (arity_of sy) (suc h) (tokens_of r)) ≡ false → implies_bytes sy r q ≡ false
   unfolding implies_bytes
   implies_placeless h l e = onward_none _ _ (λ b. carried_placeless (arity_of sy) (tokens_of r) (tokens_of q) (get_or q 0 0) h e (get_or r 0 0) 0 0 b (omega arith) (omega arith))
 
@@ -214,11 +175,6 @@ module _ (sy r q : List ℕ) where
   implies_many l = onward_none _ _ (λ b. carried_many (arity_of sy) (tokens_of r) (tokens_of q) (get_or q 0 0) (get_or r 0 0) 0 0 b (omega (arith, frees_le 0 0 (get_or q 0 0))))
 
 -- ---- a walk over the facts of a record's tokens
--- A record's count of tokens is a byte.
-pub length_tokens : (rec text : List ℕ) → text ≡ tokens_of rec → length text ≤ get_or rec 1 0
-unfolding tokens_of
-length_tokens rec text e = omega (arith, ap length e, length-take (get_or rec 1 0) (drop 2 rec))
-
 pub span_next : (ar : ℕ → ℕ) (text : List ℕ) (n : ℕ) → span ar 1 (drop (span ar n text) text) + span ar n text ≡ span ar (n + 1) text
 span_next ar text n = omega (arith, span_add ar n 1 text)
 
@@ -227,35 +183,13 @@ span_next ar text n = omega (arith, span_add ar n 1 text)
 unfoldable pub fits : List ℕ → List ℕ → List ℕ → ℕ → Bool
 fits sy q f j = may_match f (tokens_of q) (span (arity_of sy) (suc j) (tokens_of q))
 
-module _ (sy q f : List ℕ) (m j : ℕ) where
-  pub place_start : m ≡ get_or q 0 0 → has_place (arity_of sy) (tokens_of q) (get_or q 0 0) f ≡ any (fits sy q f) 0 (m - 0)
-  unfolding has_place fits
-  place_start e = let z : m - 0 ≡ get_or q 0 0 = omega arith in rw z
+pub place_start : (sy q f : List ℕ) (m : ℕ) → m ≡ get_or q 0 0 → has_place (arity_of sy) (tokens_of q) (get_or q 0 0) f ≡ any (fits sy q f) 0 (m - 0)
+unfolding has_place fits
+place_start sy q f m e = let z : m - 0 ≡ get_or q 0 0 = omega arith in rw z
 
-  pub place_yes : j < m → may_match f (tokens_of q) (span (arity_of sy) (j + 1) (tokens_of q)) ≡ true → any (fits sy q f) j (m - j) ≡ true
-  unfolding fits
-  place_yes h e = any_yes (fits sy q f) m j h (ap (λ n. may_match f (tokens_of q) (span (arity_of sy) n (tokens_of q))) (sym (add-one j)) ∙ e)
+pub ruleset places = (span_next, place_start, less, add-one)
 
-  pub place_no : j < m → may_match f (tokens_of q) (span (arity_of sy) (j + 1) (tokens_of q)) ≡ false → any (fits sy q f) j (m - j) ≡ any (fits sy q f) (j + 1) (m - (j + 1))
-  unfolding fits
-  place_no h e = any_no (fits sy q f) m j h (ap (λ n. may_match f (tokens_of q) (span (arity_of sy) n (tokens_of q))) (sym (add-one j)) ∙ e)
-
-  pub place_end : m ≤ j → any (fits sy q f) j (m - j) ≡ false
-  place_end h = any_end (fits sy q f) m j h
-
-pub ruleset places = (span_next, place_start, place_yes, place_no, place_end)
-
--- ---- may r imply q
-module _ (ar : ℕ → ℕ) (r q : List ℕ) where
-  pub cheap_many : get_or q 0 0 < get_or r 0 0 → may_imply ar r q ≡ false
-  unfolding may_imply both
-  cheap_many h = rw (lt-leb (get_or r 0 0) (get_or q 0 0) h, both)
-
-  pub cheap_concl : get_or r 0 0 ≤ get_or q 0 0 → may_imply ar r q ≡ may_match (fact_at ar 0 (tokens_of r)) (tokens_of q) 0
-  unfolding may_imply both
-  cheap_concl h = rw (le-leb (get_or r 0 0) (get_or q 0 0) h, both)
-
-pub ruleset cheaps = (cheap_many, cheap_concl)
+pub ruleset counts = (lt-leb, le-leb)
 
 -- ---- the search
 -- Hypothesis k of r into hypothesis j of q, and then the rest.
@@ -277,7 +211,7 @@ module _ (sy r q : List ℕ) (k u : ℕ) (b : List ℕ) where
   unfolding carried way
   carry_start m e h = let z : m - 0 ≡ get_or q 0 0 = omega arith in rw (z, less (get_or r 0 0) k h, add-one, way)
 
-  module _ (m j : ℕ) (h : j < m) where
+  module _ (j : ℕ) where
     -- The tokens of hypothesis k against those of hypothesis j.
     abbrev got : Bool × List ℕ
     got = matched ar (hypothesis_of sy r k) (tokens_of q) (span ar (j + 1) (tokens_of q)) b
@@ -286,31 +220,22 @@ module _ (sy r q : List ℕ) (k u : ℕ) (b : List ℕ) where
     unfolding hypothesis_of
     got_is = rw (add-one j)
 
-    pub way_used : free u j ≡ false → any (way sy r q k u b) j (m - j) ≡ any (way sy r q k u b) (j + 1) (m - (j + 1))
+    pub way_used : free u j ≡ false → way sy r q k u b j ≡ false
     unfolding way
-    way_used e = any_no (way sy r q k u b) m j h (into_used ar (tokens_of r) (tokens_of q) k u b rest j e)
+    way_used e = into_used ar (tokens_of r) (tokens_of q) k u b rest j e
 
-    pub way_unmatched : got.0 ≡ false → any (way sy r q k u b) j (m - j) ≡ any (way sy r q k u b) (j + 1) (m - (j + 1))
+    pub way_unmatched : got.0 ≡ false → way sy r q k u b j ≡ false
     unfolding way
-    way_unmatched e = any_no (way sy r q k u b) m j h (into_unmatched ar (tokens_of r) (tokens_of q) k u b rest j (ap (λ (x : Bool × List ℕ). x.0) got_is ∙ e))
+    way_unmatched e = into_unmatched ar (tokens_of r) (tokens_of q) k u b rest j (ap (λ (x : Bool × List ℕ). x.0) got_is ∙ e)
 
-    pub way_other : may_match (hypothesis_of sy r k) (tokens_of q) (span ar (j + 1) (tokens_of q)) ≡ false → any (way sy r q k u b) j (m - j) ≡ any (way sy r q k u b) (j + 1) (m - (j + 1))
+    pub way_other : may_match (hypothesis_of sy r k) (tokens_of q) (span ar (j + 1) (tokens_of q)) ≡ false → way sy r q k u b j ≡ false
     way_other e = way_unmatched (unmatched ar (hypothesis_of sy r k) (tokens_of q) (span ar (j + 1) (tokens_of q)) b e)
 
-    way_on : free u j ≡ true → got.0 ≡ true → way sy r q k u b j ≡ rest (used_by u j) got.1
+    pub way_on : free u j ≡ true → got.0 ≡ true → way sy r q k u b j ≡ rest (used_by u j) got.1
     unfolding way
     way_on e f = into_on ar (tokens_of r) (tokens_of q) k u b rest j e ∙ ap (λ (x : Bool × List ℕ). onward x (rest (used_by u j))) got_is ∙ onward_yes got (rest (used_by u j)) f
 
-    pub way_no : free u j ≡ true → got.0 ≡ true → rest (used_by u j) got.1 ≡ false → any (way sy r q k u b) j (m - j) ≡ any (way sy r q k u b) (j + 1) (m - (j + 1))
-    way_no e f g = any_no (way sy r q k u b) m j h (way_on e f ∙ g)
-
-    pub way_yes : free u j ≡ true → got.0 ≡ true → rest (used_by u j) got.1 ≡ true → any (way sy r q k u b) j (m - j) ≡ true
-    way_yes e f g = any_yes (way sy r q k u b) m j h (way_on e f ∙ g)
-
-  pub way_end : (m j : ℕ) → m ≤ j → any (way sy r q k u b) j (m - j) ≡ false
-  way_end m j h = any_end (way sy r q k u b) m j h
-
-pub ruleset ways = (span_next, carry_done, carry_start, way_used, way_unmatched, way_other, way_no, way_yes, way_end)
+pub ruleset ways = (span_next, less, add-one, carry_done, carry_start, way_used, way_unmatched, way_other, way_on)
 
 -- ---- one record against another
 module _ (sy r q : List ℕ) where
@@ -326,19 +251,6 @@ module _ (sy r q : List ℕ) where
       go : (c : Bool) → leb (get_or r 0 0) (get_or q 0 0) ≡ c → both c (may_match (fact_at (arity_of sy) 0 (tokens_of r)) (tokens_of q) 0) ≡ false → implies_bytes sy r q ≡ false
       go true h f = implies_unmatched (unmatched (arity_of sy) (fact_at (arity_of sy) 0 (tokens_of r)) (tokens_of q) 0 unbound f)
       go false h f = implies_many sy r q (leb-false (get_or r 0 0) (get_or q 0 0) h)
-
-  module _ (b : List ℕ) (eb : b ≡ unbound) where
-    abbrev concl : Bool × List ℕ
-    concl = matched (arity_of sy) (fact_at (arity_of sy) 0 (tokens_of r)) (tokens_of q) 0 b
-
-    pub implies_no : concl.0 ≡ false → implies_bytes sy r q ≡ false
-    implies_no e = implies_unmatched (ap (λ (b : List ℕ). (matched (arity_of sy) (fact_at (arity_of sy) 0 (tokens_of r)) (tokens_of q) 0 b).0) (sym eb) ∙ e)
-
-    pub implies_is : concl.0 ≡ true → implies_bytes sy r q ≡ carried (arity_of sy) (tokens_of r) (tokens_of q) (get_or q 0 0) 0 (get_or r 0 0 - 0) 0 concl.1
-    unfolding implies_bytes
-    implies_is e = let d : get_or r 0 0 - 0 ≡ get_or r 0 0 = omega arith in rw (← eb, d) (onward_yes concl (carried (arity_of sy) (tokens_of r) (tokens_of q) (get_or q 0 0) 0 (get_or r 0 0) 0) e)
-
-pub ruleset conclusions = (implies_cheap, implies_no, implies_is)
 
 -- ---- the first live record that implies q
 -- The fact at the walk's place.
@@ -371,19 +283,15 @@ module _ (n : ℕ) (a : List ℕ) where
 
 -- A table that begins with the record `rec`.
 module _ (sy q rec rest : List ℕ) (T n i : ℕ) (e : length rec ≡ min (T + 8) (length (rec ++ rest))) where
-  next : (s : Bool) → eqb (get_or rec (T + 2) 0) 1 ≡ s → (s ≡ true → implies_bytes sy rec q ≡ false) → first_bytes sy T q (n + 1) i (rec ++ rest) ≡ first_bytes sy T q n (i + 1) rest
+  -- By whether it is live and implies q, its number or the answer for what comes after it.
+  abbrev pick : Bool → Bool → Option ℕ → Option ℕ
+  pick live will o = elim live [ false ↦ o | true ↦ elim will [ true ↦ some i | false ↦ o ] ]
+
+  pub scan_next : first_bytes sy T q (n + 1) i (rec ++ rest) ≡ pick (eqb (get_or rec (T + 2) 0) 1) (implies_bytes sy rec q) (first_bytes sy T q n (i + 1) rest)
   unfolding first_bytes
-  next false g f = rw (add-one n, first_bytes, chunk_byte (T + 8) rec rest e (T + 2) (omega arith), g, first_bytes, chunk_drop (T + 8) rec rest e, add-one)
-  next true g f = rw (add-one n, first_bytes, chunk_byte (T + 8) rec rest e (T + 2) (omega arith), g, first_bytes, chunk_take (T + 8) rec rest e, f refl, first_bytes, chunk_drop (T + 8) rec rest e, add-one)
+  scan_next =
+      ap (λ (k : ℕ). first_bytes sy T q k i (rec ++ rest)) (add-one n)
+      ∙ ap₂ (λ (x : ℕ) (l : List ℕ). pick (eqb x 1) (implies_bytes sy l q) (first_bytes sy T q n (suc i) (drop (T + 8) (rec ++ rest)))) (chunk_byte (T + 8) rec rest e (T + 2) (omega arith)) (chunk_take (T + 8) rec rest e)
+      ∙ ap₂ (λ (k : ℕ) (l : List ℕ). pick (eqb (get_or rec (T + 2) 0) 1) (implies_bytes sy rec q) (first_bytes sy T q n k l)) (sym (add-one i)) (chunk_drop (T + 8) rec rest e)
 
-  pub scan_dead : get_or rec (T + 2) 0 ≢ 1 → first_bytes sy T q (n + 1) i (rec ++ rest) ≡ first_bytes sy T q n (i + 1) rest
-  scan_dead d = next (eqb (get_or rec (T + 2) 0) 1) refl (λ g. absurd (d (eqb-true _ _ g)))
-
-  pub scan_no : implies_bytes sy rec q ≡ false → first_bytes sy T q (n + 1) i (rec ++ rest) ≡ first_bytes sy T q n (i + 1) rest
-  scan_no f = next (eqb (get_or rec (T + 2) 0) 1) refl (λ _. f)
-
-  pub scan_yes : get_or rec (T + 2) 0 ≡ 1 → implies_bytes sy rec q ≡ true → first_bytes sy T q (n + 1) i (rec ++ rest) ≡ some i
-  unfolding first_bytes
-  scan_yes d g = rw (add-one n, first_bytes, chunk_byte (T + 8) rec rest e (T + 2) (omega arith), eq-eqb _ _ d, first_bytes, chunk_take (T + 8) rec rest e, g, first_bytes)
-
-pub ruleset scans = (span_next, fact_here, implies_cheap, implies_stuck, scan_end, scan_dead, scan_no, scan_yes)
+pub ruleset scans = (span_next, fact_here, implies_cheap, implies_stuck, scan_end, scan_next, eq-eqb, ne_eqb)

@@ -1,19 +1,17 @@
-//! Implication of one rule record by another, on their very bytes, and the first live record of a table that implies one.
+// Implication of one rule record by another, on their very bytes, and the first live record of a table that implies one.
 #![tactic(auto)]
 
-ghost use Rattle.std.specs.Prelude.{◌≡◌, ℕ, ◌-◌, ◌≤◌, ◌<◌, length, get_or};
+ghost use Rattle.std.specs.Prelude.{◌≡◌, ◌-◌, ◌≤◌, ◌<◌, length, get_or};
 ghost use Rattle.records.specs.Symbols.{arity_of};
 ghost use Rattle.records.specs.Rules.{tokens_of};
 ghost use Rattle.records.specs.Found.{found_of};
 ghost use Rattle.imply.specs.Imply.{free, used_by, carried as carried_by, implies_bytes, first_bytes};
 ghost use Rattle.imply.specs.Filter.{may_match, has_place, may_imply};
 
-use records::Found;
+use records::FIRST_SYMBOL;
 use records::parts::byte_at;
 use records::rules::tokens;
-
-// The token of the first symbol; those below are variables.
-const FIRST_SYMBOL: u8 = 64;
+use terms::Facts;
 
 // The state byte of a live record.
 const LIVE: u8 = 1;
@@ -28,7 +26,7 @@ pub fn is_free(u: u32, j: u32) -> bool
 }
 
 /// The set u with j.
-#[tactic(auto, using(crate::proofs::Laws::used_is))]
+#[tactic(auto, unfolding(crate::specs::Imply::used_by))]
 pub fn mark(u: u32, j: u32) -> u32
     requires { j < 32 }
     ensures { result ≡ used_by u j }
@@ -43,15 +41,8 @@ fn hypotheses(rec: &[u8]) -> u8
     byte_at(rec, 0)
 }
 
-// The tokens of a record, whose count is a byte.
-fn text_of(rec: &[u8]) -> &[u8]
-    ensures { (result.now ≡ tokens_of rec.now) × (length result.now < 256) }
-{
-    tokens(rec)
-}
-
 // Do the symbols before a pattern's first variable stand in the text from the place `from` on?
-#[tactic(auto, using(crate::proofs::Laws::leads))]
+#[tactic(auto, using(crate::proofs::Laws::lead), unfolding(crate::specs::Filter::may_match))]
 fn may_match(pattern: &[u8], text: &[u8], from: usize) -> bool
     requires { from ≤ length text.now }
     ensures { result ≡ may_match pattern.now text.now from }
@@ -78,7 +69,7 @@ pub struct Target<'a> {
 
 impl<'a> Target<'a> {
     // Do the hypotheses of r from hypothesis k on go one to one into those that are not used, under the bindings?
-    #[tactic(auto, using(crate::proofs::Laws::ways))]
+    #[tactic(auto, using(crate::proofs::Laws::ways), unfolding(crate::specs::Imply::any))]
     fn carried(&self, r: &[u8], k: usize, used: u32, binds: [u16; 64]) -> bool
         ensures { result ≡ carried_by (arity_of self.now.symbols.now) (tokens_of r.now) (tokens_of self.now.record.now) (get_or self.now.record.now 0 0) k (get_or r.now 0 0 - k) used binds }
     {
@@ -87,16 +78,16 @@ impl<'a> Target<'a> {
             return true;
         }
         let hyp = terms::hypothesis(symbols, r, k);
-        let text = text_of(record);
-        let mut next = terms::fact_start(symbols, text, 1);
+        let own = Facts::of_record(symbols, record);
+        let mut next = own.start(1);
         for j in 0..u32::from(hypotheses(record)) {
             let at = next;
-            next += terms::span(symbols, text, at, 1);
-            if !is_free(used, j) || !may_match(hyp, text, at) {
+            next += own.span(at, 1);
+            if !is_free(used, j) || !may_match(hyp, own.tokens, at) {
                 continue;
             }
             let mut mine = binds;
-            if matching::match_at(symbols, hyp, text, at, &mut mine)
+            if matching::match_at(symbols, hyp, own.tokens, at, &mut mine)
                 && self.carried(r, k + 1, mark(used, j), mine)
             {
                 return true;
@@ -106,58 +97,59 @@ impl<'a> Target<'a> {
     }
 
     // May r imply this one, by the counts of hypotheses and the symbols that the conclusions begin with?
-    #[tactic(auto, using(crate::proofs::Laws::cheaps))]
+    #[tactic(auto, using(crate::proofs::Laws::counts), unfolding(crate::specs::Filter::may_imply, model::specs::Term::both))]
     fn may_be_implied_by(&self, r: &[u8]) -> bool
         ensures { result ≡ may_imply (arity_of self.now.symbols.now) r.now self.now.record.now }
     {
         hypotheses(r) <= hypotheses(self.record)
             && may_match(
-                terms::fact(self.symbols, text_of(r), 0),
-                text_of(self.record),
+                Facts::of_record(self.symbols, r).fact(0),
+                tokens(self.record),
                 0,
             )
     }
 
     /// Does the record r imply this one?
-    #[tactic(auto, using(crate::proofs::Laws::conclusions))]
+    #[tactic(auto, using(crate::proofs::Laws::implies_cheap), unfolding(crate::specs::Imply::implies_bytes, matching::specs::Match::onward))]
     pub fn implied_by(&self, r: &[u8]) -> bool
         ensures { result ≡ implies_bytes self.now.symbols.now r.now self.now.record.now }
     {
         if !self.may_be_implied_by(r) {
             return false;
         }
-        let concl = terms::fact(self.symbols, text_of(r), 0);
-        let mut binds = [0u16; 64];
-        matching::match_at(self.symbols, concl, text_of(self.record), 0, &mut binds)
-            && self.carried(r, 0, 0, binds)
+        let Target { symbols, record } = *self;
+        let concl = Facts::of_record(symbols, r).fact(0);
+        let text = Facts::of_record(symbols, record).tokens;
+        let mut binds = [0; 64];
+        matching::match_at(symbols, concl, text, 0, &mut binds) && self.carried(r, 0, 0, binds)
     }
 
     // May a fact match one of the hypotheses?
-    #[tactic(auto, using(crate::proofs::Laws::places))]
+    #[tactic(auto, using(crate::proofs::Laws::places), unfolding(crate::specs::Imply::any, crate::proofs::Laws::fits))]
     fn has_place(&self, fact: &[u8]) -> bool
         ensures { result ≡ has_place (arity_of self.now.symbols.now) (tokens_of self.now.record.now) (get_or self.now.record.now 0 0) fact.now }
     {
-        let text = text_of(self.record);
-        let mut at = terms::fact_start(self.symbols, text, 1);
+        let own = Facts::of_record(self.symbols, self.record);
+        let mut at = own.start(1);
         for _ in 0..hypotheses(self.record) {
-            if may_match(fact, text, at) {
+            if may_match(fact, own.tokens, at) {
                 return true;
             }
-            at += terms::span(self.symbols, text, at, 1);
+            at += own.span(at, 1);
         }
         false
     }
 
     /// The first live one of `count` records, of room for `toks` tokens, that implies this one.
     #[tactic(auto, using(crate::proofs::Laws::scans))]
-    pub fn first_implying(&self, table: &[u8], count: usize, toks: usize) -> Found
+    pub fn first_implying(&self, table: &[u8], count: usize, toks: usize) -> Option<usize>
         requires { toks ≤ 248 }
         ensures { result ≡ found_of (first_bytes self.now.symbols.now toks self.now.record.now count 0 table.now) }
     {
         let mut records = table.chunks(toks + 8).take(count).enumerate();
         'scan: loop {
             let Some((number, rec)) = records.next() else {
-                break 'scan Found::Nothing;
+                break 'scan None;
             };
             if byte_at(rec, toks + 2) != LIVE {
                 continue;
@@ -166,17 +158,17 @@ impl<'a> Target<'a> {
                 continue;
             }
             // Each hypothesis needs a place in the target; once all have one, the full test decides.
-            let text = text_of(rec);
-            let mut at = terms::fact_start(self.symbols, text, 1);
+            let facts = Facts::of_record(self.symbols, rec);
+            let mut at = facts.start(1);
             for _ in 0..hypotheses(rec) {
-                let end = at + terms::span(self.symbols, text, at, 1);
-                if !self.has_place(&text[at..end]) {
+                let end = at + facts.span(at, 1);
+                if !self.has_place(&facts.tokens[at..end]) {
                     continue 'scan;
                 }
                 at = end;
             }
             if self.implied_by(rec) {
-                break 'scan Found::At(number);
+                break 'scan Some(number);
             }
         }
     }

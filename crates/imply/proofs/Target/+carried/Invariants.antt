@@ -15,7 +15,7 @@ decreases-carried l = get_or l.r.now 0 0 - l.k
 
 abbrev pub invariant-loop-j : goal.invariant-loop-j
 invariant-loop-j l = record {
-  inside : l.next ≤ length l.text;
-  place : l.next ≡ span (arity_of l.self.symbols.now) (l.j + 1) l.text;
+  inside : l.next ≤ length l.own.tokens.now;
+  place : l.next ≡ span (arity_of l.self.symbols.now) (l.j + 1) l.own.tokens.now;
   left : carried (arity_of l.self.symbols.now) (tokens_of l.r) (tokens_of l.self.record.now) (get_or l.self.record.now 0 0) l.k (get_or l.r 0 0 - l.k) l.used l.binds ≡ any (way l.self.symbols.now l.r l.self.record.now l.k l.used l.binds) l.j (l.j-end - l.j);
 }

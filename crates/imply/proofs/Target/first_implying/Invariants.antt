@@ -12,8 +12,8 @@ use Rattle.imply.proofs.Target.first_implying.Given as goal
 
 abbrev pub invariant-loop : goal.invariant-loop
 invariant-loop l = record {
-  inside : l.at ≤ length l.text;
-  place : l.at ≡ span (arity_of l.self.symbols.now) (l.counter + 1) l.text;
+  inside : l.at ≤ length l.facts.tokens.now;
+  place : l.at ≡ span (arity_of l.self.symbols.now) (l.counter + 1) l.facts.tokens.now;
 }
 
 abbrev pub invariant-scan : goal.invariant-scan

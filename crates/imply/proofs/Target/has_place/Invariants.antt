@@ -12,7 +12,7 @@ use Rattle.imply.proofs.Target.has_place.Given as goal
 
 abbrev pub invariant-loop : goal.invariant-loop
 invariant-loop l = record {
-  inside : l.at ≤ length l.text;
-  place : l.at ≡ span (arity_of l.self.symbols.now) (l.counter + 1) l.text;
+  inside : l.at ≤ length l.own.tokens.now;
+  place : l.at ≡ span (arity_of l.self.symbols.now) (l.counter + 1) l.own.tokens.now;
   left : has_place (arity_of l.self.symbols.now) (tokens_of l.self.record.now) (get_or l.self.record.now 0 0) l.fact ≡ any (fits l.self.symbols.now l.self.record.now l.fact) l.counter (l.end - l.counter);
 }
