@@ -146,6 +146,7 @@ impl<'a> Target<'a> {
         requires { toks ≤ 248 }
         ensures { result ≡ found_of (first_bytes self.now.symbols.now toks self.now.record.now count 0 table.now) }
     {
+        // The walk over a record's hypotheses gives the record up by the label.
         let mut records = table.chunks(toks + 8).take(count).enumerate();
         'scan: loop {
             let Some((number, rec)) = records.next() else {
