@@ -4,7 +4,6 @@ ghost use Rattle.batch.specs.Lines.{Adds, Pair};
 ghost use Rattle.checker.specs.Answers.{checked_number, checked_place};
 
 use checker::{Checked, checked_number, checked_place};
-use records::parts::front;
 use std::io::{Result, Write};
 
 // Puts bytes into a line from a place on. Where do they end?
@@ -34,22 +33,16 @@ fn put_number(line: &mut [u8], at: usize, n: usize, last: u8) -> usize
 // Puts the answer to a check into a line: its number and its place. Where does it end?
 fn put_check(line: &mut [u8], c: Checked) -> usize
     requires { 42 ≤ length line.old }
-    ensures { Pair (checked_number c) (checked_place c) (take result line.new) }
+    ensures end { result ≤ 42 }
+    ensures pair { Pair (checked_number c) (checked_place c) (take result line.new) }
 {
     let at = put_number(line, 0, checked_number(c), b' ');
     put_number(line, at, checked_place(c), b'\n')
 }
 
-// Writes the line that says that a case is bad. There is no more to read.
-pub fn bad_case<W: Write>(out: &mut W) -> Result<bool> {
-    out.write_all(b"bad case\n")?;
-    Ok(false)
-}
-
-// Writes the line that answers a check. There may be more to read.
-pub fn check_line<W: Write>(out: &mut W, c: Checked) -> Result<bool> {
+// Writes the line that answers a check.
+pub fn check_line<W: Write>(out: &mut W, c: Checked) -> Result<()> {
     let mut line = [0u8; 42];
     let end = put_check(&mut line, c);
-    out.write_all(front(&line, end))?;
-    Ok(true)
+    out.write_all(&line[..end])
 }

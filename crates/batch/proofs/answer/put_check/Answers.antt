@@ -2,8 +2,8 @@
 use lib.ListN.{take}
 use Rattle.batch.proofs.answer.put_check.Goals as goal
 
-pub returns : goal.returns
-returns c =
+pub returns-clause-pair : goal.returns-clause-pair
+returns-clause-pair c =
     let p = c.put_number-at in
     record {
       first = take p.result p.new.line;
