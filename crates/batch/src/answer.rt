@@ -2,7 +2,6 @@
 ghost use Rattle.std.specs.Prelude.{◌≡◌, OnOk};
 ghost use Rattle.std.specs.Io.KnownBytes.{Appends};
 ghost use Rattle.batch.specs.Lines.{answer_line};
-ghost use Rattle.checker.specs.Answers.{checked_number, checked_place};
 
 use arrayvec::ArrayVec;
 use checker::{Checked, checked_number, checked_place};
@@ -13,7 +12,7 @@ const LINE: usize = 42;
 
 /// Writes the line that answers a check, all at once: its number and its place.
 pub fn check_line<W: Write>(out: &mut W, c: Checked) -> Result<()>
-    ensures { OnOk result (Appends (W.contents out.old) (W.contents out.new) (answer_line (checked_number c) (checked_place c))) }
+    ensures { OnOk result (Appends (W.contents out.old) (W.contents out.new) (answer_line c)) }
 {
     let mut line: ArrayVec<u8, LINE> = ArrayVec::new();
     writeln!(line, "{} {}", checked_number(c), checked_place(c))?;

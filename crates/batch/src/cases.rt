@@ -1,4 +1,8 @@
 // The tables and the step list of a case, and the call that answers it.
+ghost use Rattle.std.specs.Prelude.{◌≡◌, ◌++◌, length, IfOk, OnOk};
+ghost use Rattle.std.specs.Io.KnownBytes.{Consumes};
+ghost use Rattle.batch.specs.Cases.{IsAnswered};
+
 use super::answer::check_line;
 use super::head::{Case, CaseError, Lengths, QUERY, RULES, STEPS, SYMBOLS, fill};
 use checker::check_steps;
@@ -22,7 +26,12 @@ struct TableRoom {
 
 impl TableRoom {
     // Reads the three tables.
-    fn fill<R: Read>(&mut self, input: &mut R, lengths: Lengths) -> Result<Tables<'_>, CaseError> {
+    fn fill<R: Read>(&mut self, input: &mut R, lengths: Lengths) -> Result<Tables<'_>, CaseError>
+        ensures symbols { IfOk result (λ t. length t.symbols.now ≡ lengths.symbols) }
+        ensures rules { IfOk result (λ t. length t.rules.now ≡ lengths.rules) }
+        ensures query { IfOk result (λ t. length t.query.now ≡ lengths.query) }
+        ensures bytes { IfOk result (λ t. Consumes (R.remaining input.old) (R.remaining input.new) (t.symbols.now ++ (t.rules.now ++ t.query.now))) }
+    {
         let TableRoom { symbols, rules, query } = self;
         Ok(Tables {
             symbols: fill(input, symbols, lengths.symbols)?,
@@ -52,7 +61,9 @@ impl Buffers {
     }
 
     // Reads the rest of a case and answers it. No run is answered yet: each counts as a bad case.
-    pub fn answer<R: Read, W: Write>(&mut self, case: Case, input: &mut R, out: &mut W) -> Result<(), CaseError> {
+    pub fn answer<R: Read, W: Write>(&mut self, case: Case, input: &mut R, out: &mut W) -> Result<(), CaseError>
+        ensures { OnOk result (IsAnswered case (R.remaining input.old) (R.remaining input.new) (W.contents out.old) (W.contents out.new)) }
+    {
         match case {
             Case::Run(lengths, _) => {
                 self.tables.fill(input, lengths)?;
