@@ -1,7 +1,8 @@
 // The tables and the step list of a case, and the call that answers it.
-ghost use Rattle.std.specs.Prelude.{◌≡◌, ◌++◌, length, IfOk, OnOk};
-ghost use Rattle.std.specs.Io.KnownBytes.{Consumes};
-ghost use Rattle.batch.specs.Cases.{IsAnswered};
+ghost use Rattle.std.specs.Prelude.{◌≡◌, ◌++◌, ◌⊎◌, length, IfOk, OnOk, IsErrOf};
+ghost use Rattle.std.specs.Io.KnownBytes.{Consumes, IsAtEnd};
+ghost use Rattle.batch.specs.declared.head.CaseError.TheVariants.{Bad};
+ghost use Rattle.batch.specs.Cases.{IsAnswered, TooLong, IsPast};
 
 use super::answer::check_line;
 use super::head::{Case, CaseError, Lengths, QUERY, RULES, STEPS, SYMBOLS, fill};
@@ -31,8 +32,13 @@ impl TableRoom {
         ensures rules { IfOk result (λ t. length t.rules.now ≡ lengths.rules) }
         ensures query { IfOk result (λ t. length t.query.now ≡ lengths.query) }
         ensures bytes { IfOk result (λ t. Consumes (R.remaining input.old) (R.remaining input.new) (t.symbols.now ++ (t.rules.now ++ t.query.now))) }
+        ensures bad { IsErrOf result Bad → TooLong lengths ⊎ IsAtEnd (R.remaining input.new) }
     {
-        let TableRoom { symbols, rules, query } = self;
+        let TableRoom {
+            symbols,
+            rules,
+            query,
+        } = self;
         Ok(Tables {
             symbols: fill(input, symbols, lengths.symbols)?,
             rules: fill(input, rules, lengths.rules)?,
@@ -61,8 +67,14 @@ impl Buffers {
     }
 
     // Reads the rest of a case and answers it. No run is answered yet: each counts as a bad case.
-    pub fn answer<R: Read, W: Write>(&mut self, case: Case, input: &mut R, out: &mut W) -> Result<(), CaseError>
-        ensures { OnOk result (IsAnswered case (R.remaining input.old) (R.remaining input.new) (W.contents out.old) (W.contents out.new)) }
+    pub fn answer<R: Read, W: Write>(
+        &mut self,
+        case: Case,
+        input: &mut R,
+        out: &mut W,
+    ) -> Result<(), CaseError>
+        ensures bad { IsErrOf result Bad → IsPast case ⊎ IsAtEnd (R.remaining input.new) }
+        ensures ok { OnOk result (IsAnswered case (R.remaining input.old) (R.remaining input.new) (W.contents out.old) (W.contents out.new)) }
     {
         match case {
             Case::Run(lengths, _) => {
@@ -72,7 +84,10 @@ impl Buffers {
             Case::Check(lengths, n) => {
                 let tables = self.tables.fill(input, lengths)?;
                 let steps = fill(input, &mut self.steps, n)?;
-                check_line(out, check_steps(tables.symbols, tables.rules, tables.query, steps))?;
+                check_line(
+                    out,
+                    check_steps(tables.symbols, tables.rules, tables.query, steps),
+                )?;
                 Ok(())
             }
         }

@@ -1,10 +1,9 @@
 -- `batch::cases::Buffers::answer` meets its contract. Assumes nothing.
-use Rattle.std.proofs.Common.{◌∙◌}
 use Rattle.std.proofs.KnownBytes.{Consumes-trans}
 use Rattle.batch.proofs.cases.Buffers.answer.Goals as goal
 
-pub returns-in_ok-check_line-in-Check : goal.returns-in_ok-check_line-in-Check
-returns-in_ok-check_line-in-Check g c =
+pub returns-in_ok-check_line-in-Check-clause-ok : goal.returns-in_ok-check_line-in-Check-clause-ok
+returns-in_ok-check_line-in-Check-clause-ok g c =
     let t = c.in_ok-tables-in-Check in
     let s = c.in_ok-steps-in-Check in
     record {
