@@ -23,6 +23,10 @@ two l i = get_or l i 0 + 256 * get_or l (i + 1) 0
 abbrev pub fact_place : ℕ → ℕ
 fact_place h = 4 + 2 * h
 
+-- The bytes of a step.
+abbrev pub step_size : ℕ → ℕ → ℕ
+step_size h T = fact_place h + T
+
 unfoldable pub step_tokens : ℕ → List ℕ → List ℕ
 step_tokens h s = take (get_or s 3 0) (drop (fact_place h) s)
 

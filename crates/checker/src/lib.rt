@@ -2,12 +2,12 @@
 #![tactic(auto)]
 
 ghost use Rattle.std.specs.Prelude.{◌≡◌, ◌+◌, ◌*◌, ◌≤◌};
-ghost use Rattle.checker.specs.Steps.{steps_length, check_good, check_of};
+ghost use Rattle.checker.specs.Steps.{step_size, check_good, check_of};
 ghost use Rattle.checker.specs.Answers.{GoodInput, checked_number, checked_place};
 
 use records::tables::input;
 use records::{Found, Input, Refusal};
-use steps::{ends, first_bad_step};
+use steps::{Form, List};
 
 mod steps; // steps.rt: what is tested of each step and of the last
 
@@ -59,42 +59,33 @@ pub fn checked_place(c: Checked) -> usize
     }
 }
 
-// Are n bytes from 1 to `most` whole steps?
-fn steps_length(hyps: usize, toks: usize, most: usize, n: usize) -> bool
-    requires { ((hyps ≤ 255) × (toks ≤ 248)) × (most * (4 + 2 * hyps + toks) ≤ 65534) }
-    ensures { result ≡ steps_length hyps toks most n }
-{
-    let size = 4 + 2 * hyps + toks;
-    if n < 1 {
-        return false;
-    }
-    if most * size < n {
-        return false;
-    }
-    n % size == 0
-}
-
 // What is wrong with the list, where the input is good: its length, else its first bad step, else its end.
 fn check_good(
     symbols: &[u8],
     rules: &[u8],
     query: &[u8],
     steps: &[u8],
-    hyps: usize,
-    toks: usize,
+    form: Form,
     most: usize,
 ) -> Checked
-    requires hyps_bound { ((hyps ≤ 255) × (toks ≤ 248)) × (most * (4 + 2 * hyps + toks) ≤ 65534) }
-    requires good_input { GoodInput hyps toks symbols.now rules.now query.now }
-    ensures { result ≡ check_good hyps toks most symbols.now rules.now query.now steps.now }
+    requires few { most * step_size form.hyps form.toks ≤ 65534 }
+    requires most_steps { most ≤ 256 }
+    requires good_input { GoodInput form.hyps form.toks symbols.now rules.now query.now }
+    ensures { result ≡ check_good form.hyps form.toks most symbols.now rules.now query.now steps.now }
 {
-    if !steps_length(hyps, toks, most, steps.len()) {
+    if !form.whole(most, steps.len()) {
         return Checked::Length;
     }
-    match first_bad_step(symbols, rules, steps, hyps, toks) {
+    let list = List {
+        symbols,
+        rules,
+        steps,
+        form,
+    };
+    match list.first_bad() {
         Found::At(i) => Checked::Step(i),
         Found::Nothing => {
-            if !ends(query, steps, hyps, toks) {
+            if !list.ends(query) {
                 return Checked::End;
             }
             Checked::Accepted
@@ -108,6 +99,6 @@ pub fn check_steps(symbols: &[u8], rules: &[u8], query: &[u8], steps: &[u8]) -> 
 {
     match input(symbols, rules, query, HYPS, TOKS, VARS) {
         Input::Bad(r) => Checked::Refused(r),
-        Input::Good => check_good(symbols, rules, query, steps, HYPS, TOKS, MOST),
+        Input::Good => check_good(symbols, rules, query, steps, Form { hyps: HYPS, toks: TOKS }, MOST),
     }
 }
