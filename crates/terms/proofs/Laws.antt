@@ -7,12 +7,14 @@ use native.Mathlib.Numerals.{add-one}
 use native.Mathlib.Omega.{arith}
 use borrow.Author.Tests.{lt-ltb, le-ltb, eqb-true, eqb-false, eq-eqb, ne_eqb}
 use lib.Dec.{eqb, ltb}
-use lib.ListN.{length, take, drop, get_or, length-drop, length-take, get_or-eq_default}
+use lib.ListN.{length, take, drop, get_or, length-drop, length-take, drop_of_length-le}
 use lib.Seq.{drop-cons, drop-drop}
+use Rattle.std.proofs.lemmas.List.{drop_more}
 use Rattle.model.specs.Term.{both}
 use Rattle.records.specs.Tokens.{span}
 use Rattle.records.specs.Symbols.{arity_of}
 use Rattle.records.specs.Rules.{tokens_of}
+use Rattle.terms.specs.OpenLaws.{open_long}
 use Rattle.terms.specs.Facts.{fact_at, hypothesis_of, open_bytes, base_open, all_open_bytes, hypotheses_open}
 
 module _ (ar : ℕ → ℕ) where
@@ -42,6 +44,8 @@ module _ (ar : ℕ → ℕ) where
   pub fact_is : (ts : List ℕ) (n a e : ℕ) → a ≡ span ar n ts → e ≡ span ar 1 (drop a ts) → take (a + e - a) (drop a ts) ≡ fact_at ar n ts
   unfolding fact_at
   fact_is ts n a e h g = let d : a + e - a ≡ e = omega arith in rw (d, g, h)
+
+pub ruleset spans = (span_none, span_step, span_end)
 
 -- A record's count of tokens is a byte.
 pub tokens_length : (rec : List ℕ) → get_or rec 1 0 < 256 → length (tokens_of rec) < 256
@@ -106,13 +110,15 @@ module _ (o : ℕ → Bool) where
   unfolding all_open_bytes
   open_end ar l n k h = let e : n - k ≡ 0 = omega arith in rw e
 
--- The walk over the hypotheses of a record: of none, and its start.
-module _ (sy rec : List ℕ) where
-  pub hypotheses_none : length rec ≡ 0 → hypotheses_open sy rec ≡ true
-  unfolding hypotheses_open all_open_bytes
-  hypotheses_none h = let k : length rec ≤ 0 = omega arith in rw (get_or-eq_default rec 0 {n = 0} k)
+-- The walk over the hypotheses of a record.
+pub hypotheses_start : (sy rec ts : List ℕ) (at : ℕ) → ts ≡ tokens_of rec → at ≡ span (arity_of sy) 1 ts
+    → hypotheses_open sy rec ≡ all_open_bytes (base_open sy) (arity_of sy) (get_or rec 0 0) (drop at ts)
+unfolding hypotheses_open
+hypotheses_start sy rec ts at t h = rw (h, t)
 
-  pub hypotheses_start : (ts : List ℕ) (n at : ℕ) → n ≡ get_or rec 0 0 → ts ≡ tokens_of rec → at ≡ span (arity_of sy) 1 ts
-      → hypotheses_open sy rec ≡ all_open_bytes (base_open sy) (arity_of sy) (n - 0) (drop at ts)
-  unfolding hypotheses_open
-  hypotheses_start ts n at e t h = let z : n - 0 ≡ n = omega arith in rw (z, h, t, e)
+-- A list from a place on: its first token and what is behind it, or nothing.
+pub ruleset walk = (drop_more, drop_of_length-le)
+
+pub ruleset opens = (open_symbol, open_variable, open_long)
+
+pub ruleset walks = (hypotheses_start, open_yes, open_no, open_end)
