@@ -7,10 +7,13 @@ ghost use Rattle.checker.specs.Steps.{two, fact_place, step_size, step_tokens, f
 ghost use Rattle.checker.specs.Follows.{uses_matched, follows_bytes, step_good, first_bad_bytes};
 
 use matching::match_at;
-use records::Found;
-use records::parts::{byte_at, part, rest, same_bytes, zeros};
+use records::parts::{byte_at, part, rest, zeros};
 use records::rules::{tokens, tokens_good};
-use terms::fact;
+use records::tables::Tables;
+use terms::Facts;
+
+// The most steps of a list.
+const MOST: usize = 256;
 
 // The number that two bytes at a place hold, the low one first.
 #[tactic(auto, unfolding(crate::specs::Steps::two))]
@@ -27,8 +30,8 @@ fn two(s: &[u8], i: usize) -> usize
 pub(crate) struct Form {
     pub hyps: usize,
     pub toks: usize,
-    ghost few_slots: { hyps ≤ 255 },
     ghost few_tokens: { toks ≤ 248 },
+    ghost short_lists: { 256 * (4 + 2 * hyps + toks) ≤ 65534 },
 }
 
 impl Form {
@@ -46,13 +49,12 @@ impl Form {
         self.place() + self.toks
     }
 
-    // Are n bytes from 1 to `most` whole steps?
+    // Are n bytes whole steps, and not too many?
     #[tactic(auto, unfolding(crate::specs::Steps::steps_length, model::specs::Term::both))]
-    pub(crate) fn whole(self, most: usize, n: usize) -> bool
-        requires { most ≤ 256 }
-        ensures { result ≡ steps_length self.hyps self.toks most n }
+    pub(crate) fn whole(self, n: usize) -> bool
+        ensures { result ≡ steps_length self.hyps self.toks 256 n }
     {
-        1 <= n && n <= most * self.size() && n % self.size() == 0
+        1 <= n && n <= MOST * self.size() && n % self.size() == 0
     }
 
     // The very tokens of a step.
@@ -89,11 +91,10 @@ impl Form {
     }
 }
 
-// A list of steps of one form, with the tables that say which rules there are.
+// A list of steps of one form, with the tables that it is judged by.
 #[derive(Clone, Copy)]
 pub(crate) struct List<'a> {
-    pub symbols: &'a [u8],
-    pub rules: &'a [u8],
+    pub tables: Tables<'a>,
     pub steps: &'a [u8],
     pub form: Form,
     ghost short: { length steps.now ≤ 65534 },
@@ -102,11 +103,10 @@ pub(crate) struct List<'a> {
 impl List<'_> {
     // Does each hypothesis of a rule match the fact of the step that its slot names, which is before step i?
     #[tactic(auto, using(crate::proofs::Laws::uses))]
-    fn uses_matched(&self, rule: &[u8], step: &[u8], i: usize, binds: &mut [u16]) -> bool
+    fn uses_matched(&self, rule: &Facts, step: &[u8], i: usize, binds: &mut [u16]) -> bool
         requires before { i * step_size self.now.form.hyps self.now.form.toks ≤ length self.now.steps.now }
-        requires rule_short { length rule.now ≤ 65536 }
         requires binds_len { length binds.old ≡ 64 }
-        ensures { result ≡ uses_matched (arity_of self.now.symbols.now) (step_size self.now.form.hyps self.now.form.toks) (fact_place self.now.form.hyps) rule.now self.now.steps.now i step.now 0 (get_or step.now 2 0) binds.old }
+        ensures { result ≡ uses_matched (arity_of rule.now.symbols.now) (step_size self.now.form.hyps self.now.form.toks) (fact_place self.now.form.hyps) rule.now.tokens.now self.now.steps.now i step.now 0 (get_or step.now 2 0) binds.old }
     {
         let n = usize::from(byte_at(step, 2));
         for k in 0..n {
@@ -114,9 +114,8 @@ impl List<'_> {
             if i <= u {
                 return false;
             }
-            let pattern = fact(self.symbols, rule, k + 1);
             let from = u * self.form.size() + self.form.place();
-            if !match_at(self.symbols, pattern, self.steps, from, binds) {
+            if !match_at(rule.symbols, rule.fact(k + 1), self.steps, from, binds) {
                 return false;
             }
         }
@@ -125,15 +124,14 @@ impl List<'_> {
 
     // Does step i, which stands at `at`, follow by the rule: its fact from the conclusion, and those that it uses from the hypotheses?
     #[tactic(auto, using(crate::proofs::Laws::follow))]
-    fn follows(&self, rule: &[u8], step: &[u8], i: usize, at: usize) -> bool
+    fn follows(&self, rule: &Facts, step: &[u8], i: usize, at: usize) -> bool
         requires before { i * step_size self.now.form.hyps self.now.form.toks ≤ length self.now.steps.now }
-        requires rule_short { length rule.now ≤ 65536 }
         requires place_in_bounds { at + fact_place self.now.form.hyps ≤ length self.now.steps.now }
-        ensures { result ≡ follows_bytes (arity_of self.now.symbols.now) (step_size self.now.form.hyps self.now.form.toks) (fact_place self.now.form.hyps) rule.now self.now.steps.now i at step.now }
+        ensures { result ≡ follows_bytes (arity_of rule.now.symbols.now) (step_size self.now.form.hyps self.now.form.toks) (fact_place self.now.form.hyps) rule.now.tokens.now self.now.steps.now i at step.now }
     {
         let mut binds = [0u16; 64];
-        let pattern = fact(self.symbols, rule, 0);
-        match_at(self.symbols, pattern, self.steps, at + self.form.place(), &mut binds)
+        let from = at + self.form.place();
+        match_at(rule.symbols, rule.fact(0), self.steps, from, &mut binds)
             && self.uses_matched(rule, step, i, &mut binds)
     }
 
@@ -141,36 +139,38 @@ impl List<'_> {
     #[tactic(auto, using(crate::proofs::Laws::named), unfolding(crate::specs::Follows::rule_tokens, model::specs::Term::both))]
     fn step_good(&self, i: usize) -> bool
         requires { i * step_size self.now.form.hyps self.now.form.toks + step_size self.now.form.hyps self.now.form.toks ≤ length self.now.steps.now }
-        ensures { result ≡ step_good self.now.symbols.now self.now.form.hyps self.now.form.toks (length self.now.rules.now / (self.now.form.toks + 8)) self.now.rules.now self.now.steps.now i (i * step_size self.now.form.hyps self.now.form.toks) }
+        ensures { result ≡ step_good self.now.tables.symbols.now self.now.form.hyps self.now.form.toks (length self.now.tables.rules.now / (self.now.form.toks + 8)) self.now.tables.rules.now self.now.steps.now i (i * step_size self.now.form.hyps self.now.form.toks) }
     {
+        let Tables { symbols, rules, .. } = self.tables;
         let size = self.form.size();
         let step = part(self.steps, i * size, size);
         let record = self.form.toks + 8;
-        let rule = tokens(part(self.rules, two(step, 0) * record, record));
-        self.form.good(self.symbols, self.rules, self.rules.len() / record, step)
-            && self.follows(rule, step, i, i * size)
+        let rule = part(rules, two(step, 0) * record, record);
+        self.form.good(symbols, rules, rules.len() / record, step)
+            && self.follows(&Facts::of_record(symbols, rule), step, i, i * size)
     }
 
     // The first bad one of the whole steps.
     #[tactic(auto, using(crate::proofs::Laws::steps))]
-    pub(crate) fn first_bad(&self) -> Found
-        ensures { result ≡ found_of (first_bad_bytes self.now.symbols.now self.now.form.hyps self.now.form.toks (length self.now.rules.now / (self.now.form.toks + 8)) self.now.rules.now self.now.steps.now 0 0 (length self.now.steps.now / step_size self.now.form.hyps self.now.form.toks)) }
+    pub(crate) fn first_bad(&self) -> Option<usize>
+        ensures { result ≡ found_of (first_bad_bytes self.now.tables.symbols.now self.now.form.hyps self.now.form.toks (length self.now.tables.rules.now / (self.now.form.toks + 8)) self.now.tables.rules.now self.now.steps.now 0 0 (length self.now.steps.now / step_size self.now.form.hyps self.now.form.toks)) }
     {
         for i in 0..self.steps.len() / self.form.size() {
             if !self.step_good(i) {
-                return Found::At(i);
+                return Some(i);
             }
         }
-        Found::Nothing
+        None
     }
 
     // Has the last step the query's fact?
-    pub(crate) fn ends(&self, query: &[u8]) -> bool
+    #[tactic(auto, using(records::proofs::Laws::same_bytes_is))]
+    pub(crate) fn ends(&self) -> bool
         requires { step_size self.now.form.hyps self.now.form.toks ≤ length self.now.steps.now }
-        ensures { result ≡ same_bytes (step_tokens self.now.form.hyps (take (step_size self.now.form.hyps self.now.form.toks) (drop (length self.now.steps.now - step_size self.now.form.hyps self.now.form.toks) self.now.steps.now))) (tokens_of query.now) }
+        ensures { result ≡ same_bytes (step_tokens self.now.form.hyps (take (step_size self.now.form.hyps self.now.form.toks) (drop (length self.now.steps.now - step_size self.now.form.hyps self.now.form.toks) self.now.steps.now))) (tokens_of self.now.tables.query.now) }
     {
         let size = self.form.size();
         let last = part(self.steps, self.steps.len() - size, size);
-        same_bytes(self.form.tokens(last), tokens(query))
+        self.form.tokens(last) == tokens(self.tables.query)
     }
 }

@@ -8,5 +8,5 @@ abbrev pub invariant-loop-i : goal.invariant-loop-i
 invariant-loop-i l =
     let s = l.self in
     let size = step_size s.form.hyps s.form.toks in
-    let bad = first_bad_bytes s.symbols.now s.form.hyps s.form.toks (length s.rules.now / (s.form.toks + 8)) s.rules.now s.steps.now in
+    let bad = first_bad_bytes s.tables.symbols.now s.form.hyps s.form.toks (length s.tables.rules.now / (s.form.toks + 8)) s.tables.rules.now s.steps.now in
     bad 0 0 (length s.steps.now / size) ≡ bad l.i (l.i * size) (length s.steps.now / size - l.i)

@@ -8,7 +8,7 @@ use Rattle.checker.proofs.steps.List.uses_matched.Given as goal
 abbrev pub invariant-loop-k : goal.invariant-loop-k
 invariant-loop-k l =
     let s = l.self in
-    let uses = uses_matched (arity_of s.symbols.now) (step_size s.form.hyps s.form.toks) (fact_place s.form.hyps) l.rule s.steps.now l.i l.step in
+    let uses = uses_matched (arity_of l.rule.symbols.now) (step_size s.form.hyps s.form.toks) (fact_place s.form.hyps) l.rule.tokens.now s.steps.now l.i l.step in
     record {
       few : l.n < 256;
       binds_len : length l.binds ≡ 64;
