@@ -7,15 +7,8 @@ ghost use Rattle.batch.specs.Cases.{IsAnswered, TooLong, IsPast};
 use super::answer::check_line;
 use super::head::{Case, CaseError, Lengths, QUERY, RULES, STEPS, SYMBOLS, fill};
 use checker::check_steps;
+use records::tables::Tables;
 use std::io::{Read, Write};
-
-// The tables of a case.
-#[derive(Clone, Copy)]
-struct Tables<'a> {
-    symbols: &'a [u8],
-    rules: &'a [u8],
-    query: &'a [u8],
-}
 
 // The room for the tables of the largest case.
 #[derive(Drop)]
@@ -84,10 +77,7 @@ impl Buffers {
             Case::Check(lengths, n) => {
                 let tables = self.tables.fill(input, lengths)?;
                 let steps = fill(input, &mut self.steps, n)?;
-                check_line(
-                    out,
-                    check_steps(tables.symbols, tables.rules, tables.query, steps),
-                )?;
+                check_line(out, check_steps(&tables, steps))?;
                 Ok(())
             }
         }

@@ -1,6 +1,6 @@
 -- The checker's answer in each case, as the functions' proofs cite it. Assumes nothing.
 use mathlib.Core.Path.{◌≡◌, refl, sym, ap, ◌∙◌}
-use mathlib.Core.Bool.{Bool, true, false}
+use mathlib.Core.Bool.{true, false}
 use mathlib.Core.Option.{Option, none, some}
 use mathlib.Core.List.{List, []}
 use Prim.Native.Nat.{ℕ, zero, suc, ◌+◌, ◌-◌, ◌*◌, ◌/◌, ◌%◌, ◌≤◌}
@@ -16,7 +16,7 @@ use Rattle.records.specs.Rules.{tokens_of, decode_rules, decode_query}
 use Rattle.records.specs.Found.{found_of}
 use Rattle.records.specs.RuleLaws.{Accepted as AcceptedInput, accepted}
 use Rattle.checker.specs.declared.Rejected.TheVariants.{Length, Step as BadStep, End}
-use Rattle.checker.specs.Steps.{Checked, step_tokens, decode_steps, first_bad_step, steps_length, judged, check_good}
+use Rattle.checker.specs.Steps.{step_tokens, decode_steps, first_bad_step, steps_length, judged, check_good}
 use Rattle.checker.specs.Follows.{first_bad_bytes}
 use Rattle.checker.specs.CheckLaws.{first_bad_bytes_ok, ends_ok}
 use Rattle.checker.specs.Answers.{GoodInput}

@@ -1,5 +1,5 @@
 -- Laws of steps as bytes that the functions' proofs cite: what is read of a step, and a turn and the end of each loop. Assumes nothing.
-use mathlib.Core.Path.{◌≡◌, ap, ap₂, ◌∙◌}
+use mathlib.Core.Path.{◌≡◌, ap₂, ◌∙◌}
 use mathlib.Core.Bool.{Bool, true, false}
 use mathlib.Core.Option.{none, some}
 use mathlib.Core.List.{List}
@@ -8,17 +8,14 @@ use native.Mathlib.Nat.{add-mul, mul-le-mul, mul-le-mul_right, div-mul-le_self}
 use native.Mathlib.Numerals.{add-one}
 use native.Mathlib.Omega.{arith}
 use borrow.Author.Tests.{lt-ltb, le-ltb}
-use lib.Dec.{eqb, leb, ltb}
 use lib.ListN.{length, take, drop, get_or, length-take, length-drop}
 use lib.Seq.{get_or-take}
-use Rattle.model.specs.Term.{both}
-use Rattle.records.specs.Symbols.{arity_of, zeros}
-use Rattle.records.specs.Rules.{good_tokens, tokens_of}
+use Rattle.records.specs.Rules.{tokens_of}
 use Rattle.records.proofs.Laws.{less}
 use Rattle.terms.specs.Facts.{fact_at}
 use Rattle.matching.specs.Match.{matched, onward, unbound}
-use Rattle.checker.specs.Steps.{two, step_tokens, form_good}
-use Rattle.checker.specs.Follows.{uses_matched, follows_bytes, rule_tokens, step_good, first_bad_bytes}
+use Rattle.checker.specs.Steps.{two}
+use Rattle.checker.specs.Follows.{uses_matched, follows_bytes, step_good, first_bad_bytes}
 
 -- ---- where records and facts stand
 pub rule_place : (r T : ℕ) → r < 65536 → T ≤ 248 → r * (T + 8) ≤ 16777216
