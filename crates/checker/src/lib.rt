@@ -8,7 +8,7 @@ ghost use Rattle.checker.specs.Answers.{GoodInput, rejected_number, rejected_pla
 
 use records::tables::Tables;
 use records::{Limits, Refusal};
-use steps::{Form, List};
+use steps::{Form, StepList};
 
 mod steps; // steps.rt: what is tested of each step and of the last
 
@@ -95,7 +95,7 @@ fn check_good(tables: &Tables, steps: &[u8], form: Form) -> Checked
     if !form.whole(steps.len()) {
         return Err(Rejected::Length);
     }
-    let list = List {
+    let list = StepList {
         tables: *tables,
         steps,
         form,

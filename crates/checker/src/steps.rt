@@ -1,10 +1,8 @@
 // What is tested of the bytes of a list of steps: each step's form, that it follows from steps before it, and the last one's fact.
-ghost use Rattle.std.specs.Prelude.{◌≡◌, ◌+◌, ◌-◌, ◌*◌, ◌/◌, ◌≤◌, ◌<◌, length, take, drop, get_or};
-ghost use Rattle.records.specs.Symbols.{arity_of, zeros, same_bytes};
-ghost use Rattle.records.specs.Rules.{tokens_of};
+ghost use Rattle.std.specs.Prelude.{◌≡◌, ◌+◌, ◌-◌, ◌*◌, ◌≤◌, ◌<◌, length, take, drop};
+ghost use Rattle.records.specs.Symbols.{zeros};
 ghost use Rattle.records.specs.Found.{found_of};
-ghost use Rattle.checker.specs.Steps.{two, fact_place, step_size, step_tokens, form_good, steps_length};
-ghost use Rattle.checker.specs.Follows.{uses_matched, follows_bytes, step_good, first_bad_bytes};
+ghost use Rattle.checker.specs.Steps.{two, fact_place, step_size, step_tokens, steps_length};
 
 use matching::match_at;
 use records::parts::{byte_at, part, rest, zeros};
@@ -72,41 +70,45 @@ impl Form {
     {
         zeros(part(step, 4 + 2 * k, 2 * self.hyps.saturating_sub(k)))
     }
-
-    // Has a step its form: one of `count` rules, as many slots as that has hypotheses, one closed fact, and zeros elsewhere?
-    #[tactic(auto, unfolding(crate::specs::Steps::form_good, model::specs::Term::both))]
-    fn good(self, symbols: &[u8], rules: &[u8], count: usize, step: &[u8]) -> bool
-        ensures { result ≡ form_good symbols.now self.hyps self.toks count rules.now step.now }
-    {
-        let r = two(step, 0);
-        let k = usize::from(byte_at(step, 2));
-        let n = usize::from(byte_at(step, 3));
-        r < count
-            && k == usize::from(byte_at(rules, r * (self.toks + 8)))
-            && 2 <= n
-            && n <= self.toks
-            && tokens_good(symbols, self.tokens(step), 0, 1)
-            && zeros(rest(step, self.place() + n))
-            && self.slots_zero(step, k)
-    }
 }
 
 // A list of steps of one form, with the tables that it is judged by.
 #[derive(Clone, Copy)]
-pub(crate) struct List<'a> {
+pub(crate) struct StepList<'a> {
     pub tables: Tables<'a>,
     pub steps: &'a [u8],
     pub form: Form,
     ghost short: { length steps.now ≤ 65534 },
 }
 
-impl List<'_> {
+impl StepList<'_> {
+    ghost use Rattle.checker.specs.Lists.{size_of, uses_in, follows_in, formed_in, good_in, first_bad_in, ends_in};
+
+    // Has a step its form: a rule of the table, as many slots as that has hypotheses, one closed fact, and zeros elsewhere?
+    #[tactic(auto, unfolding(crate::specs::Steps::form_good, model::specs::Term::both))]
+    fn form_good(&self, step: &[u8]) -> bool
+        ensures { result ≡ formed_in self.now step.now }
+    {
+        let Tables { symbols, rules, .. } = self.tables;
+        let record = self.form.toks + 8;
+        let r = two(step, 0);
+        let k = usize::from(byte_at(step, 2));
+        let n = usize::from(byte_at(step, 3));
+        r < rules.len() / record
+            && k == usize::from(byte_at(rules, r * record))
+            && 2 <= n
+            && n <= self.form.toks
+            && tokens_good(symbols, self.form.tokens(step), 0, 1)
+            && zeros(rest(step, self.form.place() + n))
+            && self.form.slots_zero(step, k)
+    }
+
     // Does each hypothesis of a rule match the fact of the step that its slot names, which is before step i?
     #[tactic(auto, using(crate::proofs::Laws::uses))]
     fn uses_matched(&self, rule: &Facts, step: &[u8], i: usize, binds: &mut [u16]) -> bool
-        requires before { i * step_size self.now.form.hyps self.now.form.toks ≤ length self.now.steps.now }
+        requires before { i * size_of self.now ≤ length self.now.steps.now }
         requires binds_len { length binds.old ≡ 64 }
-        ensures { result ≡ uses_matched (arity_of rule.now.symbols.now) (step_size self.now.form.hyps self.now.form.toks) (fact_place self.now.form.hyps) rule.now.tokens.now self.now.steps.now i step.now 0 (get_or step.now 2 0) binds.old }
+        ensures { result ≡ uses_in self.now rule.now step.now i binds.old }
     {
         let n = usize::from(byte_at(step, 2));
         for k in 0..n {
@@ -125,9 +127,9 @@ impl List<'_> {
     // Does step i, which stands at `at`, follow by the rule: its fact from the conclusion, and those that it uses from the hypotheses?
     #[tactic(auto, using(crate::proofs::Laws::follow))]
     fn follows(&self, rule: &Facts, step: &[u8], i: usize, at: usize) -> bool
-        requires before { i * step_size self.now.form.hyps self.now.form.toks ≤ length self.now.steps.now }
+        requires before { i * size_of self.now ≤ length self.now.steps.now }
         requires place_in_bounds { at + fact_place self.now.form.hyps ≤ length self.now.steps.now }
-        ensures { result ≡ follows_bytes (arity_of rule.now.symbols.now) (step_size self.now.form.hyps self.now.form.toks) (fact_place self.now.form.hyps) rule.now.tokens.now self.now.steps.now i at step.now }
+        ensures { result ≡ follows_in self.now rule.now step.now i at }
     {
         let mut binds = [0u16; 64];
         let from = at + self.form.place();
@@ -138,22 +140,22 @@ impl List<'_> {
     // Is step i good: of good form, and does it follow?
     #[tactic(auto, using(crate::proofs::Laws::named), unfolding(crate::specs::Follows::rule_tokens, model::specs::Term::both))]
     fn step_good(&self, i: usize) -> bool
-        requires { i * step_size self.now.form.hyps self.now.form.toks + step_size self.now.form.hyps self.now.form.toks ≤ length self.now.steps.now }
-        ensures { result ≡ step_good self.now.tables.symbols.now self.now.form.hyps self.now.form.toks (length self.now.tables.rules.now / (self.now.form.toks + 8)) self.now.tables.rules.now self.now.steps.now i (i * step_size self.now.form.hyps self.now.form.toks) }
+        requires { (i + 1) * size_of self.now ≤ length self.now.steps.now }
+        ensures { result ≡ good_in self.now i }
     {
         let Tables { symbols, rules, .. } = self.tables;
         let size = self.form.size();
         let step = part(self.steps, i * size, size);
         let record = self.form.toks + 8;
         let rule = part(rules, two(step, 0) * record, record);
-        self.form.good(symbols, rules, rules.len() / record, step)
+        self.form_good(step)
             && self.follows(&Facts::of_record(symbols, rule), step, i, i * size)
     }
 
     // The first bad one of the whole steps.
     #[tactic(auto, using(crate::proofs::Laws::steps))]
     pub(crate) fn first_bad(&self) -> Option<usize>
-        ensures { result ≡ found_of (first_bad_bytes self.now.tables.symbols.now self.now.form.hyps self.now.form.toks (length self.now.tables.rules.now / (self.now.form.toks + 8)) self.now.tables.rules.now self.now.steps.now 0 0 (length self.now.steps.now / step_size self.now.form.hyps self.now.form.toks)) }
+        ensures { result ≡ found_of (first_bad_in self.now) }
     {
         for i in 0..self.steps.len() / self.form.size() {
             if !self.step_good(i) {
@@ -166,8 +168,8 @@ impl List<'_> {
     // Has the last step the query's fact?
     #[tactic(auto, using(records::proofs::Laws::same_bytes_is))]
     pub(crate) fn ends(&self) -> bool
-        requires { step_size self.now.form.hyps self.now.form.toks ≤ length self.now.steps.now }
-        ensures { result ≡ same_bytes (step_tokens self.now.form.hyps (take (step_size self.now.form.hyps self.now.form.toks) (drop (length self.now.steps.now - step_size self.now.form.hyps self.now.form.toks) self.now.steps.now))) (tokens_of self.now.tables.query.now) }
+        requires { size_of self.now ≤ length self.now.steps.now }
+        ensures { result ≡ ends_in self.now }
     {
         let size = self.form.size();
         let last = part(self.steps, self.steps.len() - size, size);

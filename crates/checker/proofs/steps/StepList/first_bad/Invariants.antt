@@ -1,8 +1,8 @@
--- `checker::steps::List::first_bad` meets its contract. The invariant: the answer is that for the steps from number i on. Assumes nothing.
+-- `checker::steps::StepList::first_bad` meets its contract. The invariant: the answer is that for the steps from number i on. Assumes nothing.
 use Rattle.std.proofs.Common.{◌≡◌, ◌+◌, ◌-◌, ◌*◌, ◌/◌, length}
 use Rattle.checker.specs.Steps.{step_size}
 use Rattle.checker.specs.Follows.{first_bad_bytes}
-use Rattle.checker.proofs.steps.List.first_bad.Given as goal
+use Rattle.checker.proofs.steps.StepList.first_bad.Given as goal
 
 abbrev pub invariant-loop-i : goal.invariant-loop-i
 invariant-loop-i l =

@@ -1,9 +1,9 @@
--- `checker::steps::List::uses_matched` meets its contract. The invariant: the answer is that for the hypotheses from number k on, under the bindings so far. Assumes nothing.
+-- `checker::steps::StepList::uses_matched` meets its contract. The invariant: the answer is that for the hypotheses from number k on, under the bindings so far. Assumes nothing.
 use Rattle.std.proofs.Common.{◌≡◌, ◌-◌, ◌<◌, length, get_or}
 use Rattle.records.specs.Symbols.{arity_of}
 use Rattle.checker.specs.Steps.{fact_place, step_size}
 use Rattle.checker.specs.Follows.{uses_matched}
-use Rattle.checker.proofs.steps.List.uses_matched.Given as goal
+use Rattle.checker.proofs.steps.StepList.uses_matched.Given as goal
 
 abbrev pub invariant-loop-k : goal.invariant-loop-k
 invariant-loop-k l =
