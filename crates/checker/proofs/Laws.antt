@@ -8,9 +8,8 @@ use native.Mathlib.Nat.{add-mul, mul-le-mul, mul-le-mul_right, div-mul-le_self}
 use native.Mathlib.Numerals.{add-one}
 use native.Mathlib.Omega.{arith}
 use borrow.Author.Tests.{lt-ltb, le-ltb}
-use lib.ListN.{length, take, drop, get_or, length-take, length-drop}
+use lib.ListN.{take, get_or}
 use lib.Seq.{get_or-take}
-use Rattle.records.specs.Rules.{tokens_of}
 use Rattle.records.proofs.Laws.{less}
 use Rattle.terms.specs.Facts.{fact_at}
 use Rattle.matching.specs.Match.{matched, onward, unbound}
@@ -79,16 +78,12 @@ module _ (ar : ℕ → ℕ) (size place : ℕ) (rt st : List ℕ) (i at : ℕ) (
 pub ruleset follow = (follows_no, follows_yes)
 
 -- ---- the rule that a step names
-pub tokens_short : (n : ℕ) (l : List ℕ) → length (tokens_of (take n l)) ≤ n
-unfolding tokens_of
-tokens_short n l = let rec = take n l in omega (arith, length-take (get_or rec 1 0) (drop 2 rec), length-drop 2 rec, length-take n l)
-
 pub two_front : (h T : ℕ) (l : List ℕ) → two (take (4 + 2 * h + T) l) 0 ≡ two l 0
 unfolding two
 two_front h T l =
     ap₂ (λ (a b : ℕ). a + 256 * b) (get_or-take (4 + 2 * h + T) l 0 0 (omega arith)) (get_or-take (4 + 2 * h + T) l (0 + 1) 0 (omega arith))
 
-pub ruleset named = (rule_place, tokens_short, two_front)
+pub ruleset named = (rule_place, two_front)
 
 -- ---- step i of n
 module _ (sy : List ℕ) (h T c : ℕ) (ru st : List ℕ) (n i : ℕ) where

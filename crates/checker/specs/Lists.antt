@@ -23,8 +23,8 @@ abbrev pub uses_in : StepList → Facts → List ℕ → ℕ → List ℕ → Bo
 uses_in l rule step i binds =
     uses_matched (arity_of rule.symbols.now) (size_of l) (fact_place l.form.hyps) rule.tokens.now l.steps.now i step 0 (get_or step 2 0) binds
 
-abbrev pub follows_in : StepList → Facts → List ℕ → ℕ → ℕ → Bool
-follows_in l rule step i at = follows_bytes (arity_of rule.symbols.now) (size_of l) (fact_place l.form.hyps) rule.tokens.now l.steps.now i at step
+abbrev pub follows_in : StepList → Facts → List ℕ → ℕ → Bool
+follows_in l rule step i = follows_bytes (arity_of rule.symbols.now) (size_of l) (fact_place l.form.hyps) rule.tokens.now l.steps.now i (i * size_of l) step
 
 abbrev pub good_in : StepList → ℕ → Bool
 good_in l i = step_good l.tables.symbols.now l.form.hyps l.form.toks (rules_in l) l.tables.rules.now l.steps.now i (i * size_of l)

@@ -124,15 +124,14 @@ impl StepList<'_> {
         true
     }
 
-    // Does step i, which stands at `at`, follow by the rule: its fact from the conclusion, and those that it uses from the hypotheses?
+    // Does step i follow by the rule: its fact from the conclusion, and those that it uses from the hypotheses?
     #[tactic(auto, using(crate::proofs::Laws::follow))]
-    fn follows(&self, rule: &Facts, step: &[u8], i: usize, at: usize) -> bool
-        requires before { i * size_of self.now ≤ length self.now.steps.now }
-        requires place_in_bounds { at + fact_place self.now.form.hyps ≤ length self.now.steps.now }
-        ensures { result ≡ follows_in self.now rule.now step.now i at }
+    fn follows(&self, rule: &Facts, step: &[u8], i: usize) -> bool
+        requires { (i + 1) * size_of self.now ≤ length self.now.steps.now }
+        ensures { result ≡ follows_in self.now rule.now step.now i }
     {
         let mut binds = [0u16; 64];
-        let from = at + self.form.place();
+        let from = i * self.form.size() + self.form.place();
         match_at(rule.symbols, rule.fact(0), self.steps, from, &mut binds)
             && self.uses_matched(rule, step, i, &mut binds)
     }
@@ -148,8 +147,7 @@ impl StepList<'_> {
         let step = part(self.steps, i * size, size);
         let record = self.form.toks + 8;
         let rule = part(rules, two(step, 0) * record, record);
-        self.form_good(step)
-            && self.follows(&Facts::of_record(symbols, rule), step, i, i * size)
+        self.form_good(step) && self.follows(&Facts::of_record(symbols, rule), step, i)
     }
 
     // The first bad one of the whole steps.
