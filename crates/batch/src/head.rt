@@ -7,6 +7,9 @@ ghost use Rattle.batch.specs.declared.head.CaseError.TheVariants.{Bad, Io};
 use std::io;
 use std::io::Read;
 
+// The bytes of a head.
+const HEAD: usize = 25;
+
 /// The most bytes of a symbol table.
 pub const SYMBOLS: usize = 4096;
 
@@ -34,7 +37,7 @@ impl Lengths {
     // Has each table at most the bytes that are lent for it?
     #[tactic(auto, unfolding(crate::specs::Heads::within, model::specs::Term::both))]
     fn fit(self) -> bool
-        ensures { result ≡ within self.symbols self.rules self.query 4096 40960 4096 }
+        ensures { result ≡ within self.symbols self.rules self.query SYMBOLS RULES QUERY }
     {
         self.symbols <= SYMBOLS && self.rules <= RULES && self.query <= QUERY
     }
@@ -52,7 +55,7 @@ impl Room {
     // Has each buffer at most the bytes that may be lent?
     #[tactic(auto, unfolding(crate::specs::Heads::within, model::specs::Term::both))]
     fn fits(self) -> bool
-        ensures { result ≡ within self.rules self.goals self.steps 70000 70000 40000 }
+        ensures { result ≡ within self.rules self.goals self.steps TABLE TABLE STEPS }
     {
         self.rules <= TABLE && self.goals <= TABLE && self.steps <= STEPS
     }
@@ -81,8 +84,8 @@ impl From<io::Error> for CaseError {
 }
 
 // The number in the four bytes from a place on.
-fn number(s: &[u8; 25], i: usize) -> usize
-    requires { i + 4 ≤ 25 }
+fn number(s: &[u8; HEAD], i: usize) -> usize
+    requires { i + 4 ≤ HEAD }
     ensures { result ≡ number_at s.now i }
 {
     u32::from_le_bytes([s[i], s[i + 1], s[i + 2], s[i + 3]]) as usize
@@ -135,7 +138,7 @@ fn tables_head(kind: u8, lengths: Lengths, x: usize, y: usize, z: usize) -> Opti
 
 // What the first 25 bytes of a case say, unless they are bad.
 #[tactic(auto, unfolding(crate::specs::Heads::head_of))]
-fn head_of(s: &[u8; 25]) -> Option<Case>
+fn head_of(s: &[u8; HEAD]) -> Option<Case>
     ensures { result ≡ head_of s.now }
 {
     let lengths = Lengths {
@@ -147,7 +150,7 @@ fn head_of(s: &[u8; 25]) -> Option<Case>
 }
 
 // Reads until a buffer is full or the input ends. How many bytes came? They stand at its front, also where a later read fails.
-pub fn read_full<R: Read>(input: &mut R, buf: &mut [u8]) -> io::Result<usize>
+fn read_full<R: Read>(input: &mut R, buf: &mut [u8]) -> io::Result<usize>
     ensures within { IfOk result (λ n. n ≤ length buf.new) }
     ensures bytes { IfOk result (λ n. Consumes (R.remaining input.old) (R.remaining input.new) (take n buf.new)) }
     ensures end { IfOk result (λ n. n < length buf.new → IsAtEnd (R.remaining input.new)) }
@@ -183,12 +186,12 @@ pub fn fill<'a, R: Read>(input: &mut R, buf: &'a mut [u8], n: usize) -> Result<&
 pub fn read_head<R: Read>(input: &mut R) -> Result<Option<Case>, CaseError>
     ensures case { IfOk result (λ o. IfSome o (λ c. TakesHead (R.remaining input.old) (R.remaining input.new) (Some c))) }
     ensures end { IfOk result (λ o. IsNone o → EndsWithin (R.remaining input.old) (R.remaining input.new) 0 1) }
-    ensures bad { IsErrOf result Bad → TakesHead (R.remaining input.old) (R.remaining input.new) None ⊎ EndsWithin (R.remaining input.old) (R.remaining input.new) 1 25 }
+    ensures bad { IsErrOf result Bad → TakesHead (R.remaining input.old) (R.remaining input.new) None ⊎ EndsWithin (R.remaining input.old) (R.remaining input.new) 1 HEAD }
 {
-    let mut head = [0u8; 25];
+    let mut head = [0u8; HEAD];
     match read_full(input, &mut head)? {
         0 => Ok(None),
-        25 => head_of(&head).map(Some).ok_or(CaseError::Bad),
+        HEAD => head_of(&head).map(Some).ok_or(CaseError::Bad),
         _ => Err(CaseError::Bad),
     }
 }
