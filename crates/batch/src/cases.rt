@@ -67,6 +67,7 @@ impl Buffers {
         out: &mut W,
     ) -> Result<(), CaseError>
         ensures bad { IsErrOf result Bad → IsPast case ⊎ IsAtEnd (R.remaining input.new) }
+        ensures unwritten { IsErrOf result Bad → W.contents out.new ≡ W.contents out.old }
         ensures ok { OnOk result (IsAnswered case (R.remaining input.old) (R.remaining input.new) (W.contents out.old) (W.contents out.new)) }
     {
         match case {

@@ -1,6 +1,11 @@
 // Answers a stream of cases from standard input, each by its line, until the stream ends or a case is bad.
 #![tactic(auto)]
 
+ghost use Rattle.std.specs.Prelude.{◌≡◌, ◌-◌, ◌^◌, ◌⊎◌, OnOk, IsErrOf};
+ghost use Rattle.batch.specs.declared.head.CaseError.TheVariants.{Bad};
+ghost use Rattle.batch.specs.Heads.{EndsWithin};
+ghost use Rattle.batch.specs.Cases.{AnswersUntil, IsBadCase};
+
 use cases::Buffers;
 use head::{CaseError, read_head};
 use std::io;
@@ -15,10 +20,15 @@ fn all_cases<R: Read, W: Write>(
     input: &mut R,
     out: &mut W,
     buffers: &mut Buffers,
-) -> Result<(), CaseError> {
-    for _ in 0..u64::MAX {
+) -> Result<(), CaseError>
+    ensures ok { OnOk result (AnswersUntil (R.remaining input.old) (W.contents out.old) (W.contents out.new)
+        (λ n at. EndsWithin at (R.remaining input.new) 0 1 ⊎ (n ≡ 2 ^ 64 - 1))) }
+    ensures bad { IsErrOf result Bad → AnswersUntil (R.remaining input.old) (W.contents out.old) (W.contents out.new)
+        (λ n at. IsBadCase at (R.remaining input.new)) }
+{
+    for _turn in 0..u64::MAX {
         let Some(case) = read_head(input)? else {
-            break;
+            return Ok(());
         };
         buffers.answer(case, input, out)?;
     }
