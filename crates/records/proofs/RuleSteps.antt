@@ -1,16 +1,15 @@
 -- Laws of rule records that the functions' proofs cite. Assumes nothing.
-use mathlib.Core.Path.{◌≡◌, refl, sym, ap, ◌∙◌}
-use native.Mathlib.Nat.{suc-mul}
+use mathlib.Core.Path.{◌≡◌, refl}
 use native.Mathlib.Numerals.{add-one}
 use mathlib.Core.Bool.{true, false}
-use mathlib.Core.List.{List, [], ◌∷◌}
-use Prim.Native.Nat.{ℕ, zero, suc, ◌+◌, ◌-◌, ◌*◌, ◌≤◌, ◌<◌}
+use mathlib.Core.Option.{none, some}
+use mathlib.Core.List.{List, [], ◌∷◌, ◌++◌}
+use Prim.Native.Nat.{ℕ, zero, suc, ◌+◌, ◌-◌, ◌/◌, ◌≤◌, ◌<◌}
 use native.Mathlib.Omega.{arith}
 use borrow.Author.Tests.{eq-eqb, ne_eqb, le-ltb}
 use lib.ListN.{length, take, drop, length-drop, drop_of_length-le}
-use lib.Seq.{drop-drop}
 use Rattle.std.proofs.lemmas.List.{drop_more}
-use Rattle.records.proofs.Laws.{less}
+use Rattle.records.proofs.Laws.{chunk_take, chunk_drop, chunk_count, chunk_none}
 use Rattle.records.specs.Symbols.{kind_of, arity_of, is_function}
 use Rattle.records.specs.Rules.{in_term, good_tokens, rule_good, first_bad_rule}
 
@@ -38,13 +37,18 @@ module _ (sy : List ℕ) (v : ℕ) where
 
 pub ruleset tokens = (drop_more, drop_of_length-le, eq-eqb, ne_eqb)
 
--- ---- record i of n
-pub rule_next :
-    (sy : List ℕ) (h T v : ℕ) (ru : List ℕ) (n i : ℕ) → i < n → rule_good sy h T v (take (T + 8) (drop (i * (T + 8)) ru)) ≡ true
-    → first_bad_rule sy h T v (n - i) i (drop (i * (T + 8)) ru) ≡ first_bad_rule sy h T v (n - (i + 1)) (i + 1) (drop ((i + 1) * (T + 8)) ru)
-unfolding first_bad_rule
-rule_next sy h T v ru n i k e =
-    let last : drop (i * (T + 8) + (T + 8)) ru ≡ drop ((i + 1) * (T + 8)) ru = ap (λ (m : ℕ). drop m ru) (sym (suc-mul i (T + 8)) ∙ ap (λ (m : ℕ). m * (T + 8)) (sym (add-one i))) in
-    rw (less n i k, e, first_bad_rule, drop-drop, last, add-one)
+-- ---- a table that begins with the record `rec`, which has number i
+module _ (sy : List ℕ) (h T v : ℕ) (rec rest : List ℕ) (i : ℕ) (e : length rec ≡ T + 8) where
+  pub rule_bad : rule_good sy h T v rec ≡ false → first_bad_rule sy h T v (length (rec ++ rest) / (T + 8)) i (rec ++ rest) ≡ some i
+  unfolding first_bad_rule
+  rule_bad g = rw (chunk_count (T + 8) rec rest e (omega arith), chunk_take (T + 8) rec rest e, g, first_bad_rule)
 
-pub ruleset steps = (less, rule_next)
+  pub rule_fine : rule_good sy h T v rec ≡ true → first_bad_rule sy h T v (length (rec ++ rest) / (T + 8)) i (rec ++ rest) ≡ first_bad_rule sy h T v (length rest / (T + 8)) (i + 1) rest
+  unfolding first_bad_rule
+  rule_fine g = rw (chunk_count (T + 8) rec rest e (omega arith), chunk_take (T + 8) rec rest e, g, first_bad_rule, chunk_drop (T + 8) rec rest e, add-one)
+
+pub rule_none : (sy : List ℕ) (h T v : ℕ) (rest : List ℕ) (i : ℕ) → length rest < T + 8 → first_bad_rule sy h T v (length rest / (T + 8)) i rest ≡ none
+unfolding first_bad_rule
+rule_none sy h T v rest i k = rw (chunk_none (T + 8) rest k)
+
+pub ruleset records = (rule_bad, rule_fine, rule_none)

@@ -70,14 +70,13 @@ pub fn rule_good(symbols: &[u8], rec: &[u8], hyps: usize, toks: usize, vars: usi
 }
 
 // The first bad one of the table's whole records.
-#[tactic(auto, using(crate::proofs::RuleSteps::steps), unfolding(crate::specs::Rules::first_bad_rule))]
+#[tactic(auto, using(crate::proofs::RuleSteps::records))]
 pub(crate) fn first_bad_rule(symbols: &[u8], rules: &[u8], limits: &Limits) -> Option<usize>
     ensures { result ≡ found_of (first_bad_rule symbols.now limits.now.hyps limits.now.toks limits.now.vars (length rules.now / (limits.now.toks + 8)) 0 rules.now) }
 {
     let Limits { hyps, toks, vars } = *limits;
-    let size = toks + 8;
-    for i in 0..rules.len() / size {
-        if !rule_good(symbols, part(rules, i * size, size), hyps, toks, vars) {
+    for (i, rec) in rules.chunks_exact(toks + 8).enumerate() {
+        if !rule_good(symbols, rec, hyps, toks, vars) {
             return Some(i);
         }
     }

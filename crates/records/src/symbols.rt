@@ -110,13 +110,13 @@ fn name_good(name: &[u8]) -> bool
 }
 
 // Is the name none of those of the first n symbols?
-#[tactic(auto, using(crate::proofs::SymbolSteps::steps), unfolding(crate::specs::Symbols::name_new))]
+#[tactic(auto, using(crate::proofs::SymbolSteps::steps))]
 fn name_new(symbols: &[u8], n: usize, name: &[u8]) -> bool
     requires { 16 * n ≤ length symbols.now }
     ensures { result ≡ name_new name.now n symbols.now }
 {
-    for i in 0..n {
-        if part(symbols, 16 * i + 2, 14) == name {
+    for rec in symbols.chunks_exact(16).take(n) {
+        if part(rec, 2, 14) == name {
             return false;
         }
     }
@@ -141,12 +141,12 @@ fn symbol_good(symbols: &[u8], i: usize, rec: &[u8]) -> bool
 }
 
 /// The first bad one of the table's whole records.
-#[tactic(auto, using(crate::proofs::SymbolSteps::steps), unfolding(crate::specs::Symbols::first_bad_symbol))]
+#[tactic(auto, using(crate::proofs::SymbolSteps::steps))]
 pub fn first_bad_symbol(symbols: &[u8]) -> Option<usize>
     ensures { result ≡ found_of (first_bad_symbol symbols.now (length symbols.now / 16) 0 symbols.now) }
 {
-    for i in 0..symbols.len() / 16 {
-        if !symbol_good(symbols, i, rest(symbols, 16 * i)) {
+    for (i, rec) in symbols.chunks_exact(16).enumerate() {
+        if !symbol_good(symbols, i, rec) {
             return Some(i);
         }
     }

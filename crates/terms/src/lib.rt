@@ -58,6 +58,18 @@ impl<'s, 'a> Facts<'s, 'a> {
         rest.len()
     }
 
+    /// The n facts from fact `first` on.
+    pub fn walk(&self, first: usize, n: usize) -> Walk<'s, 'a>
+        requires { first ≤ 4096 }
+        ensures { (result.facts ≡ self.now) × (result.at ≡ span_of (arity_of self.now.symbols.now) first self.now.tokens.now) × (result.left ≡ n) }
+    {
+        Walk {
+            facts: *self,
+            at: self.start(first),
+            left: n,
+        }
+    }
+
     /// The place of fact n.
     pub fn start(&self, n: usize) -> usize
         requires { n ≤ 4096 }
@@ -75,6 +87,37 @@ impl<'s, 'a> Facts<'s, 'a> {
     {
         let at = self.start(n);
         &self.tokens[at..at + self.span(at, 1)]
+    }
+}
+
+/// A walk over the next `left` facts, of which the first stands at the place `at`. It gives each fact's place and its very tokens.
+#[derive(Clone, Copy)]
+pub struct Walk<'s, 'a> {
+    pub facts: Facts<'s, 'a>,
+    pub at: usize,
+    pub left: usize,
+    pub ghost inside: { at ≤ length facts.tokens.now },
+}
+
+impl<'s, 'a> Iterator for Walk<'s, 'a> {
+    ghost use Rattle.std.specs.Iterator.{at_most};
+    ghost use Rattle.terms.specs.Walk.{Steps};
+
+    type Item = (usize, &'a [u8]);
+
+    ghost next_gives = { Steps };
+
+    ghost remaining = { λ w. at_most w.left };
+
+    fn next(&mut self) -> Option<(usize, &'a [u8])> {
+        if self.left == 0 {
+            return None;
+        }
+        let at = self.at;
+        let end = at + self.facts.span(at, 1);
+        self.at = end;
+        self.left -= 1;
+        Some((at, &self.facts.tokens[at..end]))
     }
 }
 
@@ -111,14 +154,10 @@ pub fn is_open(symbols: &[u8], fact: &[u8]) -> bool
 pub fn all_open(symbols: &[u8], rec: &[u8]) -> bool
     ensures { result ≡ hypotheses_open symbols.now rec.now }
 {
-    let facts = Facts::of_record(symbols, rec);
-    let mut at = facts.start(1);
-    for _ in 0..byte_at(rec, 0) {
-        let end = at + facts.span(at, 1);
-        if !is_open(symbols, &facts.tokens[at..end]) {
+    for (_, fact) in Facts::of_record(symbols, rec).walk(1, usize::from(byte_at(rec, 0))) {
+        if !is_open(symbols, fact) {
             return false;
         }
-        at = end;
     }
     true
 }

@@ -1,18 +1,21 @@
-use mathlib.Core.List.{List}
-use Prim.Native.Nat.{ℕ, ◌-◌}
-use native.Mathlib.Omega.{arith}
-use lib.ListN.{get_or}
-use Rattle.std.proofs.Common.{◌≡◌, ◌∙◌, ap}
-use Rattle.records.specs.Symbols.{arity_of}
-use Rattle.records.specs.Tokens.{span}
-use Rattle.terms.proofs.Laws.{hypotheses_start}
+use mathlib.Core.Path.{sym, ◌∙◌}
+use Rattle.terms.specs.Facts.{base_open}
+use Rattle.terms.proofs.Laws.{open_yes, open_no, open_end}
 use Rattle.terms.proofs.all_open.Goals as goal
 
-pub loop-init : goal.loop-init
-loop-init c =
-    let a = c.args in
-    let f = c.of_record-facts in
-    let ts = f.result.tokens.now in
-    let n : c.byte_at-end.result - 0 ≡ get_or a.rec.now 0 0 = omega (arith, c.byte_at-end.ensures) in
-    let at = c.start-at.ensures.value ∙ ap (λ (sy : List ℕ). span (arity_of sy) 1 ts) f.ensures.symbols in
-    record { inside = omega arith; same = rw n (hypotheses_start a.symbols.now a.rec.now ts c.start-at.result f.ensures.tokens at) }
+pub returns-then-not-is_open : goal.returns-then-not-is_open
+returns-then-not-is_open c =
+    let l = c.loop-fact in
+    let f = c.in-Some in
+    sym (l.invariant ∙ open_no (base_open c.args.symbols.now) l.fact-iterator c.next.new.self (f.field-0-0, f.fact) f.ensures.steps (sym c.is_open.ensures ∙ c.if-not-is_open.true))
+
+pub loop-fact-preserved : goal.loop-fact-preserved
+loop-fact-preserved c =
+    let l = c.loop-fact in
+    let f = c.in-Some in
+    l.invariant ∙ open_yes (base_open c.args.symbols.now) l.fact-iterator c.next.new.self (f.field-0-0, f.fact) f.ensures.steps (sym c.is_open.ensures ∙ c.if-not-is_open.false)
+
+pub returns : goal.returns
+returns c =
+    let l = c.loop-fact in
+    sym (l.invariant ∙ open_end (base_open c.args.symbols.now) l.fact-iterator c.next.new.self c.in-None.ensures.steps)
