@@ -50,7 +50,7 @@ impl Form {
     // Are n bytes whole steps, and not too many?
     #[tactic(auto, unfolding(crate::specs::Steps::steps_length, model::specs::Term::both))]
     pub(crate) fn whole(self, n: usize) -> bool
-        ensures { result ≡ steps_length self.hyps self.toks 256 n }
+        ensures { result ≡ steps_length self.hyps self.toks MOST n }
     {
         1 <= n && n <= MOST * self.size() && n % self.size() == 0
     }
