@@ -1,6 +1,6 @@
 // The first 25 bytes of a case: one for its kind, then six numbers of four bytes, low byte first.
-ghost use Rattle.std.specs.Prelude.{◌≡◌, ℕ, ◌+◌, ◌<◌, ◌≤◌, ◌⊎◌, length, take, IsNone, IfSome, IfOk, OnErr, IsErrOf, Some, None, get_or};
-ghost use Rattle.std.specs.Io.KnownBytes.{Consumes, IsAtEnd, Keeps};
+ghost use Rattle.std.specs.Prelude.{◌≡◌, ℕ, ◌+◌, ◌<◌, ◌≤◌, ◌⊎◌, length, take, IsNone, IfSome, IfOk, OnErr, IsErrOf, Some, None};
+ghost use Rattle.std.specs.Io.KnownBytes.{Consumes, IsAtEnd};
 ghost use Rattle.batch.specs.Heads.{number_at, within, run_head, check_head, tables_head, head_of, TakesHead, EndsWithin};
 ghost use Rattle.batch.specs.declared.head.CaseError.TheVariants.{Bad, Io};
 
