@@ -1,73 +1,86 @@
 // The tables and the step list of a case, and the call that answers it.
-use super::answer::{bad_case, check_line};
-use super::head::{Room, Tables, read_full};
+ghost use Rattle.std.specs.Prelude.{◌≡◌, ◌++◌, ◌⊎◌, length, IfOk, OnOk, IsErrOf};
+ghost use Rattle.std.specs.Io.KnownBytes.{Consumes, IsAtEnd};
+ghost use Rattle.batch.specs.declared.head.CaseError.TheVariants.{Bad};
+ghost use Rattle.batch.specs.Cases.{IsAnswered, TooLong, IsPast};
+
+use super::answer::check_line;
+use super::head::{Case, CaseError, Lengths, QUERY, RULES, STEPS, SYMBOLS, fill};
 use checker::check_steps;
-use records::parts::front;
-use std::io::{Read, Result, Write};
+use records::tables::Tables;
+use std::io::{Read, Write};
 
-// Reads n bytes to the front of a buffer. Are they all there?
-fn fill<R: Read>(input: &mut R, buf: &mut [u8], n: usize) -> Result<bool> {
-    if buf.len() < n {
-        return Ok(false);
-    }
-    Ok(read_full(input, &mut buf[0..n])? == n)
+// The room for the tables of the largest case.
+#[derive(Drop)]
+struct TableRoom {
+    symbols: [u8; SYMBOLS],
+    rules: [u8; RULES],
+    query: [u8; QUERY],
 }
 
-// Reads the three tables. Are they all there?
-fn fill_tables<R: Read>(
-    input: &mut R,
-    t: Tables,
-    symbols: &mut [u8],
-    rules: &mut [u8],
-    query: &mut [u8],
-) -> Result<bool> {
-    if !fill(input, symbols, t.symbols)? {
-        return Ok(false);
+impl TableRoom {
+    // Reads the three tables.
+    fn fill<R: Read>(&mut self, input: &mut R, lengths: Lengths) -> Result<Tables<'_>, CaseError>
+        ensures symbols { IfOk result (λ t. length t.symbols.now ≡ lengths.symbols) }
+        ensures rules { IfOk result (λ t. length t.rules.now ≡ lengths.rules) }
+        ensures query { IfOk result (λ t. length t.query.now ≡ lengths.query) }
+        ensures bytes { IfOk result (λ t. Consumes (R.remaining input.old) (R.remaining input.new) (t.symbols.now ++ (t.rules.now ++ t.query.now))) }
+        ensures bad { IsErrOf result Bad → TooLong lengths ⊎ IsAtEnd (R.remaining input.new) }
+    {
+        let TableRoom {
+            symbols,
+            rules,
+            query,
+        } = self;
+        Ok(Tables {
+            symbols: fill(input, symbols, lengths.symbols)?,
+            rules: fill(input, rules, lengths.rules)?,
+            query: fill(input, query, lengths.query)?,
+        })
     }
-    if !fill(input, rules, t.rules)? {
-        return Ok(false);
-    }
-    fill(input, query, t.query)
 }
 
-// Reads the rest of a check and answers it. Is there more to read?
-pub fn check_case<R: Read, W: Write>(
-    input: &mut R,
-    out: &mut W,
-    t: Tables,
-    n: usize,
-    symbols: &mut [u8],
-    rules: &mut [u8],
-    query: &mut [u8],
-    steps: &mut [u8],
-) -> Result<bool> {
-    if !fill_tables(input, t, symbols, rules, query)? {
-        return bad_case(out);
-    }
-    if !fill(input, steps, n)? {
-        return bad_case(out);
-    }
-    check_line(
-        out,
-        check_steps(
-            front(symbols, t.symbols),
-            front(rules, t.rules),
-            front(query, t.query),
-            front(steps, n),
-        ),
-    )
+/// The room for the largest case.
+#[derive(Drop)]
+pub struct Buffers {
+    tables: TableRoom,
+    steps: [u8; STEPS],
 }
 
-// Reads the rest of a run. No run is answered yet: each counts as a bad case.
-pub fn run_case<R: Read, W: Write>(
-    input: &mut R,
-    out: &mut W,
-    t: Tables,
-    room: Room,
-    symbols: &mut [u8],
-    rules: &mut [u8],
-    query: &mut [u8],
-) -> Result<bool> {
-    fill_tables(input, t, symbols, rules, query)?;
-    bad_case(out)
+impl Buffers {
+    pub fn new() -> Buffers {
+        Buffers {
+            tables: TableRoom {
+                symbols: [0; SYMBOLS],
+                rules: [0; RULES],
+                query: [0; QUERY],
+            },
+            steps: [0; STEPS],
+        }
+    }
+
+    // Reads the rest of a case and answers it. No run is answered yet: each counts as a bad case.
+    pub fn answer<R: Read, W: Write>(
+        &mut self,
+        case: Case,
+        input: &mut R,
+        out: &mut W,
+    ) -> Result<(), CaseError>
+        ensures bad { IsErrOf result Bad → IsPast case ⊎ IsAtEnd (R.remaining input.new) }
+        ensures unwritten { IsErrOf result Bad → W.contents out.new ≡ W.contents out.old }
+        ensures ok { OnOk result (IsAnswered case (R.remaining input.old) (R.remaining input.new) (W.contents out.old) (W.contents out.new)) }
+    {
+        match case {
+            Case::Run(lengths, _) => {
+                self.tables.fill(input, lengths)?;
+                Err(CaseError::Bad)
+            }
+            Case::Check(lengths, n) => {
+                let tables = self.tables.fill(input, lengths)?;
+                let steps = fill(input, &mut self.steps, n)?;
+                check_line(out, check_steps(&tables, steps))?;
+                Ok(())
+            }
+        }
+    }
 }

@@ -1,64 +1,48 @@
 // Answers a stream of cases from standard input, each by its line, until the stream ends or a case is bad.
 #![tactic(auto)]
 
-use answer::bad_case;
-use cases::{check_case, run_case};
-use head::{Head, read_head};
-use std::io::{Read, Result, Write};
+ghost use Rattle.std.specs.Prelude.{◌≡◌, ◌-◌, ◌^◌, ◌⊎◌, OnOk, IsErrOf};
+ghost use Rattle.batch.specs.declared.head.CaseError.TheVariants.{Bad};
+ghost use Rattle.batch.specs.Heads.{EndsWithin};
+ghost use Rattle.batch.specs.Cases.{AnswersUntil, IsBadCase};
+
+use cases::Buffers;
+use head::{CaseError, read_head};
+use std::io;
+use std::io::{Read, Write};
 
 mod answer; // answer.rt: the lines that are written
 mod cases; // cases.rt: the tables and lists of a case, and the call that answers it
 mod head; // head.rt: what stands first in a case, its kind and its lengths
 
-// Reads the next case and answers it. Is there more to read?
-fn next_case<R: Read, W: Write>(
-    input: &mut R,
-    out: &mut W,
-    symbols: &mut [u8],
-    rules: &mut [u8],
-    query: &mut [u8],
-    steps: &mut [u8],
-) -> Result<bool> {
-    let h = read_head(input)?;
-    match h {
-        Head::End => Ok(false),
-        Head::Bad => bad_case(out),
-        Head::Run(t, room) => run_case(input, out, t, room, symbols, rules, query),
-        Head::Check(t, n) => check_case(input, out, t, n, symbols, rules, query, steps),
-    }
-}
-
 // Answers case after case. Nothing says that a stream ends, so the turns are counted up to a number that none uses up.
 fn all_cases<R: Read, W: Write>(
     input: &mut R,
     out: &mut W,
-    symbols: &mut [u8],
-    rules: &mut [u8],
-    query: &mut [u8],
-    steps: &mut [u8],
-) -> Result<()> {
-    for _ in 0..u64::MAX {
-        if !next_case(input, out, symbols, rules, query, steps)? {
-            break;
-        }
+    buffers: &mut Buffers,
+) -> Result<(), CaseError>
+    ensures ok { OnOk result (AnswersUntil (R.remaining input.old) (W.contents out.old) (W.contents out.new)
+        (λ n at. EndsWithin at (R.remaining input.new) 0 1 ⊎ (n ≡ 2 ^ 64 - 1))) }
+    ensures bad { IsErrOf result Bad → AnswersUntil (R.remaining input.old) (W.contents out.old) (W.contents out.new)
+        (λ n at. IsBadCase at (R.remaining input.new)) }
+{
+    for _turn in 0..u64::MAX {
+        let Some(case) = read_head(input)? else {
+            return Ok(());
+        };
+        buffers.answer(case, input, out)?;
     }
     Ok(())
 }
 
-// Lends the room for the largest case.
-fn main(rt: HostRuntime) -> Result<()> {
-    let mut symbols = [0u8; 4096];
-    let mut rules = [0u8; 40960];
-    let mut query = [0u8; 4096];
-    let mut steps = [0u8; 40000];
+// Lends the room for the largest case, and writes the line that says that a case is bad.
+fn main(rt: HostRuntime) -> io::Result<()> {
+    let mut buffers = Buffers::new();
     let mut input = rt.reader();
-    let mut out = std::io::writer(&rt);
-    all_cases(
-        &mut input,
-        &mut out,
-        &mut symbols,
-        &mut rules,
-        &mut query,
-        &mut steps,
-    )
+    let mut out = io::writer(&rt);
+    match all_cases(&mut input, &mut out, &mut buffers) {
+        Ok(()) => Ok(()),
+        Err(CaseError::Bad) => out.write_all(b"bad case\n"),
+        Err(CaseError::Io(e)) => Err(e),
+    }
 }

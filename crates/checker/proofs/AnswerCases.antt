@@ -1,6 +1,6 @@
 -- The checker's answer in each case, as the functions' proofs cite it. Assumes nothing.
-use mathlib.Core.Path.{◌≡◌, sym, ap, ◌∙◌}
-use mathlib.Core.Bool.{Bool, true, false}
+use mathlib.Core.Path.{◌≡◌, refl, sym, ap, ◌∙◌}
+use mathlib.Core.Bool.{true, false}
 use mathlib.Core.Option.{Option, none, some}
 use mathlib.Core.List.{List, []}
 use Prim.Native.Nat.{ℕ, zero, suc, ◌+◌, ◌-◌, ◌*◌, ◌/◌, ◌%◌, ◌≤◌}
@@ -8,16 +8,15 @@ use native.Mathlib.Nat.{div-add-mod'}
 use native.Mathlib.Omega.{arith}
 use borrow.Author.Tests.{leb-true, eqb-true}
 use lib.ListN.{length, take, drop}
+use Rattle.std.specs.Prelude.{Ok, Err, Some, None}
 use Rattle.model.specs.Check.{ends}
-use Rattle.theory.specs.Basics.{both_true}
+use Rattle.theory.specs.Basics.{both_true, no_confusion}
 use Rattle.records.specs.Symbols.{same_bytes}
 use Rattle.records.specs.Rules.{tokens_of, decode_rules, decode_query}
-use Rattle.records.specs.Input.{input_of}
+use Rattle.records.specs.Found.{found_of}
 use Rattle.records.specs.RuleLaws.{Accepted as AcceptedInput, accepted}
-use Rattle.records.specs.declared.Refusal.{Refusal}
-use Rattle.records.specs.declared.Input.TheVariants.{Good, Bad}
-use Rattle.checker.specs.declared.Checked.TheVariants.{Accepted, Refused, Length, Step as BadStep, End}
-use Rattle.checker.specs.Steps.{step_tokens, decode_steps, first_bad_step, steps_length, judged, check_good, check_of}
+use Rattle.checker.specs.declared.Rejected.TheVariants.{Length, Step as BadStep, End}
+use Rattle.checker.specs.Steps.{step_tokens, decode_steps, first_bad_step, steps_length, judged, check_good}
 use Rattle.checker.specs.Follows.{first_bad_bytes}
 use Rattle.checker.specs.CheckLaws.{first_bad_bytes_ok, ends_ok}
 use Rattle.checker.specs.Answers.{GoodInput}
@@ -57,9 +56,21 @@ last_place Z n h e = go (n / Z) e
 pub last_inside : (h T most n : ℕ) → steps_length h T most n ≡ true → 4 + 2 * h + T ≤ n
 last_inside h T most n e = let c = counted h T most n e in omega (arith, last_place (4 + 2 * h + T) n c.least c.whole)
 
+pub most_bytes : (h T most n : ℕ) → steps_length h T most n ≡ true → n ≤ most * (4 + 2 * h + T)
+most_bytes h T most n e = (counted h T most n e).few
+
+-- ---- the first bad step, as the code gives it
+found_some : (o : Option ℕ) (i : ℕ) → found_of o ≡ Some i → o ≡ some i
+found_some (some j) i e = ap some (let f : j ≡ i = cc in f)
+found_some none i e = no_confusion (cc)
+
+found_none : (o : Option ℕ) → found_of o ≡ None → o ≡ none
+found_none (some j) e = no_confusion (cc)
+found_none none e = refl
+
 -- ---- the answer
 module _ (h T most : ℕ) (sy ru qu st : List ℕ) where
-  pub check_length : steps_length h T most (length st) ≡ false → Length ≡ check_good h T most sy ru qu st
+  pub check_length : steps_length h T most (length st) ≡ false → check_good h T most sy ru qu st ≡ Err Length
   unfolding check_good
   check_length e = rw (e, check_good)
 
@@ -79,36 +90,27 @@ module _ (h T most : ℕ) (sy ru qu st : List ℕ) where
     bad_is : {o : Option ℕ} → bad steps ≡ o → first_bad_step sy h T ru (decode_rules sy (T + 8) (length ru / (T + 8)) ru) [] steps st ≡ o
     bad_is f = sym (first_bad_bytes_ok h T G.vars G.few sy ru qu st A steps) ∙ f
 
-    pub check_step : (i : ℕ) → bad steps ≡ some i → BadStep i ≡ check_good h T most sy ru qu st
+    pub check_step : (i : ℕ) → found_of (bad steps) ≡ Some i → check_good h T most sy ru qu st ≡ Err (BadStep i)
     unfolding check_good judged
-    check_step i f = rw (e, check_good, bad_is f, judged)
+    check_step i f = rw (e, check_good, bad_is (found_some _ i f), judged)
 
-    -- the last step's fact against the query
-    abbrev last_is : Bool
-    last_is = same_bytes (step_tokens h (take Z (drop (length st - Z) st))) (tokens_of qu)
+    module _ (f : found_of (bad steps) ≡ None) where
+      -- the last step's fact against the query
+      last_is : same_bytes (step_tokens h (take Z (drop (length st - Z) st))) (tokens_of qu) ≡ ends (decode_query sy qu) (decode_steps sy h T steps st)
+      last_is =
+          let c = counted h T most (length st) e in
+          let n = last_number Z (length st) c.least c.whole in
+          let p : length st - Z ≡ (steps - 1) * Z = omega (arith, last_place Z (length st) c.least c.whole) in
+          ap (λ (k : ℕ). same_bytes (step_tokens h (take Z (drop k st))) (tokens_of qu)) p
+          ∙ ends_ok h T G.vars G.few sy ru qu st A (steps - 1) (ap bad (sym n) ∙ found_none _ f)
+          ∙ ap (λ (k : ℕ). ends (decode_query sy qu) (decode_steps sy h T k st)) (sym n)
 
-    last_is_lem : bad steps ≡ none → last_is ≡ ends (decode_query sy qu) (decode_steps sy h T steps st)
-    last_is_lem f =
-        let c = counted h T most (length st) e in
-        let n = last_number Z (length st) c.least c.whole in
-        let p : length st - Z ≡ (steps - 1) * Z = omega (arith, last_place Z (length st) c.least c.whole) in
-        ap (λ (k : ℕ). same_bytes (step_tokens h (take Z (drop k st))) (tokens_of qu)) p
-        ∙ ends_ok h T G.vars G.few sy ru qu st A (steps - 1) (ap bad (sym n) ∙ f)
-        ∙ ap (λ (k : ℕ). ends (decode_query sy qu) (decode_steps sy h T k st)) (sym n)
+      pub check_end : same_bytes (step_tokens h (take Z (drop (length st - Z) st))) (tokens_of qu) ≡ false → check_good h T most sy ru qu st ≡ Err End
+      unfolding check_good judged
+      check_end g = rw (e, check_good, bad_is (found_none _ f), judged, sym last_is ∙ g)
 
-    pub check_end : bad steps ≡ none → last_is ≡ false → End ≡ check_good h T most sy ru qu st
-    unfolding check_good judged
-    check_end f g = rw (e, check_good, bad_is f, judged, sym (last_is_lem f) ∙ g)
+      pub check_accepts : same_bytes (step_tokens h (take Z (drop (length st - Z) st))) (tokens_of qu) ≡ true → check_good h T most sy ru qu st ≡ Ok tt
+      unfolding check_good judged
+      check_accepts g = rw (e, check_good, bad_is (found_none _ f), judged, sym last_is ∙ g)
 
-    pub check_accepts : bad steps ≡ none → last_is ≡ true → Accepted ≡ check_good h T most sy ru qu st
-    unfolding check_good judged
-    check_accepts f g = rw (e, check_good, bad_is f, judged, sym (last_is_lem f) ∙ g)
-
-module _ (h T v most : ℕ) (sy ru qu st : List ℕ) where
-  pub check_refused : (r : Refusal) → input_of h T v sy ru qu ≡ Bad r → Refused r ≡ check_of h T v most sy ru qu st
-  unfolding check_of
-  check_refused r e = rw (e, check_of)
-
-  pub check_judged : input_of h T v sy ru qu ≡ Good → check_good h T most sy ru qu st ≡ check_of h T v most sy ru qu st
-  unfolding check_of
-  check_judged e = rw (e, check_of)
+pub ruleset answers = (last_inside, most_bytes, check_length, check_step, check_end, check_accepts)

@@ -1,7 +1,7 @@
 -- What the checker's answer on bytes means: accepted exactly where the input is good, every step has its form and follows, and the last concludes the query. Assumes nothing.
 use Prim.Native.Nat.{ℕ, zero, suc, ◌+◌, ◌/◌}
 use Rattle.std.proofs.Common.{subst}
-use Rattle.std.specs.Prelude.{Bool, ◌↔◌, length, take, drop}
+use Rattle.std.specs.Prelude.{Bool, ◌↔◌, length, take, drop, Result, Ok, Err}
 use Rattle.std.proofs.Math.Bool.{true, false}
 use Rattle.std.proofs.Math.Option.{Option, none, some}
 use mathlib.Core.List.{List, [], ◌∷◌, ◌++◌}
@@ -15,11 +15,9 @@ use Rattle.theory.specs.Basics.{true≢false, no_confusion, true_both}
 use Rattle.theory.specs.Checks.{Follows, AllFollow, next, Last, GoodOk, good_ok, EndsOk, ends_ok, follow_derives}
 use Rattle.records.specs.Rules.{decode_rules, decode_query}
 use Rattle.records.specs.Input.{input_of}
-use Rattle.records.specs.declared.Input.{Input}
-use Rattle.records.specs.declared.Input.TheVariants.{Good, Bad}
-use Rattle.checker.specs.declared.Checked.{Checked}
-use Rattle.checker.specs.declared.Checked.TheVariants.{Accepted, Refused, Length, Step as BadStep, End}
-use Rattle.checker.specs.Steps.{fact_place, decode_step, decode_steps, form_good, first_bad_step, steps_length, judged, check_good, check_of}
+use Rattle.records.specs.declared.Refusal.{Refusal}
+use Rattle.checker.specs.declared.Rejected.TheVariants.{Input, Length, Step as BadStep, End}
+use Rattle.checker.specs.Steps.{Checked, fact_place, decode_step, decode_steps, form_good, first_bad_step, steps_length, judged, check_good, check_of}
 
 -- Each of m steps has a good form.
 abbrev pub AllFormed : List ℕ → ℕ → ℕ → ℕ → List ℕ → ℕ → List ℕ → Type 0
@@ -75,34 +73,34 @@ module _ (h T v most : ℕ) (sy ru qu st : List ℕ) where
 
   -- What is asked of bytes that are accepted.
   pub record Right : Type 0 where
-    pub good : input_of h T v sy ru qu ≡ Good
+    pub good : input_of h T v sy ru qu ≡ Ok tt
     pub counted : steps_length h T most (length st) ≡ true
     pub formed : AllFormed sy h T (length rules) ru (length st / (fact_place h + T)) st
     pub follow : AllFollow rules [] steps
     pub last : Last (decode_query sy qu) steps
 
-  judged_right : judged sy h T ru rules (decode_query sy qu) (length st / (fact_place h + T)) st ≡ Accepted → AllFormed sy h T (length rules) ru (length st / (fact_place h + T)) st × AllFollow rules [] steps × Last (decode_query sy qu) steps
+  judged_right : judged sy h T ru rules (decode_query sy qu) (length st / (fact_place h + T)) st ≡ Ok tt → AllFormed sy h T (length rules) ru (length st / (fact_place h + T)) st × AllFollow rules [] steps × Last (decode_query sy qu) steps
   unfolding judged
   judged_right e = go (first_bad_step sy h T ru rules [] (length st / (fact_place h + T)) st) refl (ends (decode_query sy qu) steps) (ends_ok (decode_query sy qu) steps) e
     where
       go :
           (o : Option ℕ) → first_bad_step sy h T ru rules [] (length st / (fact_place h + T)) st ≡ o → (c : Bool) → EndsOk (decode_query sy qu) steps c
-          → elim o as (λ _. Checked) [ some i ↦ BadStep i | none ↦ elim c [ true ↦ Accepted | false ↦ End ] ] ≡ Accepted
+          → elim o as (λ _. Checked) [ some i ↦ Err (BadStep i) | none ↦ elim c [ true ↦ Ok tt | false ↦ Err End ] ] ≡ Ok tt
           → AllFormed sy h T (length rules) ru (length st / (fact_place h + T)) st × AllFollow rules [] steps × Last (decode_query sy qu) steps
       go (some i) b c k e = no_confusion (cc)
       go none b false k e = no_confusion (cc)
       go none b true k e = let w = none_bad sy h T ru rules (length st / (fact_place h + T)) [] st b in (w.0, w.1, k)
 
-  accepted_right : check_of h T v most sy ru qu st ≡ Accepted → Right
+  accepted_right : check_of h T v most sy ru qu st ≡ Ok tt → Right
   unfolding check_of check_good
   accepted_right e = go (input_of h T v sy ru qu) refl (steps_length h T most (length st)) refl e
     where
       go :
-          (i : Input) → input_of h T v sy ru qu ≡ i → (c : Bool) → steps_length h T most (length st) ≡ c
-          → elim i as (λ _. Checked) [ Bad r ↦ Refused r | Good ↦ elim c [ false ↦ Length | true ↦ judged sy h T ru rules (decode_query sy qu) (length st / (fact_place h + T)) st ] ] ≡ Accepted → Right
-      go (Bad r) p c q e = no_confusion (cc)
-      go Good p false q e = no_confusion (cc)
-      go Good p true q e = let w = judged_right e in record { good = p; counted = q; formed = w.0; follow = w.1; last = w.2 }
+          (i : Result Unit Refusal) → input_of h T v sy ru qu ≡ i → (c : Bool) → steps_length h T most (length st) ≡ c
+          → elim i as (λ _. Checked) [ Err r ↦ Err (Input r) | Ok u ↦ elim c [ false ↦ Err Length | true ↦ judged sy h T ru rules (decode_query sy qu) (length st / (fact_place h + T)) st ] ] ≡ Ok tt → Right
+      go (Err r) p c q e = no_confusion (cc)
+      go (Ok x) p false q e = no_confusion (cc)
+      go (Ok x) p true q e = let w = judged_right e in record { good = p; counted = q; formed = w.0; follow = w.1; last = w.2 }
 
   ends_true : Last (decode_query sy qu) steps → ends (decode_query sy qu) steps ≡ true
   ends_true l = go (ends (decode_query sy qu) steps) (ends_ok (decode_query sy qu) steps)
@@ -111,7 +109,7 @@ module _ (h T v most : ℕ) (sy ru qu st : List ℕ) where
       go true k = refl
       go false k = absurd (k l)
 
-  right_accepted : Right → check_of h T v most sy ru qu st ≡ Accepted
+  right_accepted : Right → check_of h T v most sy ru qu st ≡ Ok tt
   unfolding check_of check_good judged
   right_accepted R =
       go (input_of h T v sy ru qu) R.good (steps_length h T most (length st)) R.counted
@@ -119,18 +117,18 @@ module _ (h T v most : ℕ) (sy ru qu st : List ℕ) where
       (ends (decode_query sy qu) steps) (ends_true R.last)
     where
       go :
-          (i : Input) → i ≡ Good → (c : Bool) → c ≡ true → (o : Option ℕ) → o ≡ none → (d : Bool) → d ≡ true
-          → elim i as (λ _. Checked) [ Bad r ↦ Refused r | Good ↦ elim c [ false ↦ Length | true ↦ elim o [ some k ↦ BadStep k | none ↦ elim d [ true ↦ Accepted | false ↦ End ] ] ] ] ≡ Accepted
-      go (Bad r) p c q o u d w = no_confusion (cc)
-      go Good p false q o u d w = true≢false q refl
-      go Good p true q (some k) u d w = no_confusion (cc)
-      go Good p true q none u false w = true≢false w refl
-      go Good p true q none u true w = refl
+          (i : Result Unit Refusal) → i ≡ Ok tt → (c : Bool) → c ≡ true → (o : Option ℕ) → o ≡ none → (d : Bool) → d ≡ true
+          → elim i as (λ _. Checked) [ Err r ↦ Err (Input r) | Ok u ↦ elim c [ false ↦ Err Length | true ↦ elim o [ some k ↦ Err (BadStep k) | none ↦ elim d [ true ↦ Ok tt | false ↦ Err End ] ] ] ] ≡ Ok tt
+      go (Err r) p c q o u d w = no_confusion (cc)
+      go (Ok x) p false q o u d w = true≢false q refl
+      go (Ok x) p true q (some k) u d w = no_confusion (cc)
+      go (Ok x) p true q none u false w = true≢false w refl
+      go (Ok x) p true q none u true w = refl
 
   -- Accepted exactly where it should be.
-  pub check_exactly : (check_of h T v most sy ru qu st ≡ Accepted) ↔ Right
+  pub check_exactly : (check_of h T v most sy ru qu st ≡ Ok tt) ↔ Right
   check_exactly = (accepted_right, right_accepted)
 
   -- An accepted list is a derivation of the query from the rules of the table.
-  pub check_derives : check_of h T v most sy ru qu st ≡ Accepted → (n : ℕ) × Derives Closed (InTable rules) n (decode_query sy qu)
+  pub check_derives : check_of h T v most sy ru qu st ≡ Ok tt → (n : ℕ) × Derives Closed (InTable rules) n (decode_query sy qu)
   check_derives e = let R = accepted_right e in follow_derives rules (decode_query sy qu) steps R.follow R.last

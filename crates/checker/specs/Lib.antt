@@ -1,5 +1,6 @@
 pub mod Steps
 pub mod Follows
+pub mod Lists
 pub mod FollowLaws
 pub mod CheckLaws
 pub mod Accepts

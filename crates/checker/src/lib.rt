@@ -1,13 +1,14 @@
 // The step checker: are the steps of a list a derivation of the query from the rules?
 #![tactic(auto)]
 
-ghost use Rattle.std.specs.Prelude.{◌≡◌, ◌+◌, ◌*◌, ◌≤◌};
-ghost use Rattle.checker.specs.Steps.{steps_length, check_good, check_of};
-ghost use Rattle.checker.specs.Answers.{GoodInput, checked_number, checked_place};
+ghost use Rattle.std.specs.Prelude.{◌≡◌};
+ghost use Rattle.checker.specs.declared.Rejected.TheVariants.{Input};
+ghost use Rattle.checker.specs.Steps.{check_good, check_of};
+ghost use Rattle.checker.specs.Answers.{GoodInput, rejected_number, rejected_place, checked_number, checked_place};
 
-use records::tables::input;
-use records::{Found, Input, Refusal};
-use steps::{ends, first_bad_step};
+use records::tables::Tables;
+use records::{Limits, Refusal};
+use steps::{Form, StepList};
 
 mod steps; // steps.rt: what is tested of each step and of the last
 
@@ -20,94 +21,110 @@ const TOKS: usize = 120;
 // The most variables of a rule.
 const VARS: usize = 32;
 
-// The most steps of a list.
-const MOST: usize = 256;
-
-// The checker's answer: accepted; the input is refused; the list has a wrong length; a bad step; the last fact is not the query.
-#[derive(Clone, Copy)]
-pub enum Checked {
-    Accepted,
-    Refused(Refusal),
+/// Why a list is not accepted: the input is refused; it has a wrong length; a bad step; its last fact is not the query.
+#[derive(Clone, Copy, Debug, PartialEq, Eq)]
+pub enum Rejected {
+    Input(Refusal),
     Length,
     Step(usize),
     End,
 }
 
-// The number of an answer: 0 accepted, 2 to 4 by the table that is refused, 10 length, 11 step, 12 end.
-pub fn checked_number(c: Checked) -> usize
-    ensures { result ≡ checked_number c }
-{
-    match c {
-        Checked::Accepted => 0,
-        Checked::Refused(r) => records::refusal_number(r),
-        Checked::Length => 10,
-        Checked::Step(_) => 11,
-        Checked::End => 12,
+/// The checker's answer.
+pub type Checked = Result<(), Rejected>;
+
+impl From<Refusal> for Rejected {
+    ghost from_gives = { λ r e. e ≡ Input r };
+
+    fn from(r: Refusal) -> Rejected {
+        Rejected::Input(r)
     }
 }
 
-// The place of an answer: that of the refusal, the step's number, and else 0.
-pub fn checked_place(c: Checked) -> usize
-    ensures { result ≡ checked_place c }
-{
-    match c {
-        Checked::Accepted => 0,
-        Checked::Refused(r) => records::refusal_place(r),
-        Checked::Length => 0,
-        Checked::Step(i) => i,
-        Checked::End => 0,
+impl Rejected {
+    /// 2 to 4 by the table that is refused, 10 length, 11 step, 12 end.
+    pub fn number(self) -> usize
+        ensures { result ≡ rejected_number self }
+    {
+        match self {
+            Rejected::Input(r) => r.number(),
+            Rejected::Length => 10,
+            Rejected::Step(_) => 11,
+            Rejected::End => 12,
+        }
     }
-}
 
-// Are n bytes from 1 to `most` whole steps?
-fn steps_length(hyps: usize, toks: usize, most: usize, n: usize) -> bool
-    requires { ((hyps ≤ 255) × (toks ≤ 248)) × (most * (4 + 2 * hyps + toks) ≤ 65534) }
-    ensures { result ≡ steps_length hyps toks most n }
-{
-    let size = 4 + 2 * hyps + toks;
-    if n < 1 {
-        return false;
-    }
-    if most * size < n {
-        return false;
-    }
-    n % size == 0
-}
-
-// What is wrong with the list, where the input is good: its length, else its first bad step, else its end.
-fn check_good(
-    symbols: &[u8],
-    rules: &[u8],
-    query: &[u8],
-    steps: &[u8],
-    hyps: usize,
-    toks: usize,
-    most: usize,
-) -> Checked
-    requires hyps_bound { ((hyps ≤ 255) × (toks ≤ 248)) × (most * (4 + 2 * hyps + toks) ≤ 65534) }
-    requires good_input { GoodInput hyps toks symbols.now rules.now query.now }
-    ensures { result ≡ check_good hyps toks most symbols.now rules.now query.now steps.now }
-{
-    if !steps_length(hyps, toks, most, steps.len()) {
-        return Checked::Length;
-    }
-    match first_bad_step(symbols, rules, steps, hyps, toks) {
-        Found::At(i) => Checked::Step(i),
-        Found::Nothing => {
-            if !ends(query, steps, hyps, toks) {
-                return Checked::End;
-            }
-            Checked::Accepted
+    /// That of the refusal, the step's number, and else 0.
+    pub fn place(self) -> usize
+        ensures { result ≡ rejected_place self }
+    {
+        match self {
+            Rejected::Input(r) => r.place(),
+            Rejected::Step(i) => i,
+            Rejected::Length | Rejected::End => 0,
         }
     }
 }
 
-// Is the list of steps a derivation of the query from the rules? If not, what is refused first?
-pub fn check_steps(symbols: &[u8], rules: &[u8], query: &[u8], steps: &[u8]) -> Checked
-    ensures { result ≡ check_of 8 120 32 256 symbols.now rules.now query.now steps.now }
+/// The number of an answer, and 0 for an accepted list.
+pub fn checked_number(c: Checked) -> usize
+    ensures { result ≡ checked_number c }
 {
-    match input(symbols, rules, query, HYPS, TOKS, VARS) {
-        Input::Bad(r) => Checked::Refused(r),
-        Input::Good => check_good(symbols, rules, query, steps, HYPS, TOKS, MOST),
+    match c {
+        Ok(()) => 0,
+        Err(e) => e.number(),
     }
+}
+
+/// The place of an answer, and 0 for an accepted list.
+pub fn checked_place(c: Checked) -> usize
+    ensures { result ≡ checked_place c }
+{
+    match c {
+        Ok(()) => 0,
+        Err(e) => e.place(),
+    }
+}
+
+// What is wrong with the list, where the input is good: its length, else its first bad step, else its end.
+#[tactic(auto, using(crate::proofs::AnswerCases::answers))]
+fn check_good(tables: &Tables, steps: &[u8], form: Form) -> Checked
+    requires { GoodInput form.hyps form.toks tables.now.symbols.now tables.now.rules.now tables.now.query.now }
+    ensures { result ≡ check_good form.hyps form.toks 256 tables.now.symbols.now tables.now.rules.now tables.now.query.now steps.now }
+{
+    if !form.whole(steps.len()) {
+        return Err(Rejected::Length);
+    }
+    let list = StepList {
+        tables: *tables,
+        steps,
+        form,
+    };
+    if let Some(i) = list.first_bad() {
+        return Err(Rejected::Step(i));
+    }
+    if !list.ends() {
+        return Err(Rejected::End);
+    }
+    Ok(())
+}
+
+/// Is the list of steps a derivation of the query from the rules? If not, what is refused first?
+#[tactic(auto, unfolding(crate::specs::Steps::check_of))]
+pub fn check_steps(tables: &Tables, steps: &[u8]) -> Checked
+    ensures { result ≡ check_of 8 120 32 256 tables.now.symbols.now tables.now.rules.now tables.now.query.now steps.now }
+{
+    tables.input(&Limits {
+        hyps: HYPS,
+        toks: TOKS,
+        vars: VARS,
+    })?;
+    check_good(
+        tables,
+        steps,
+        Form {
+            hyps: HYPS,
+            toks: TOKS,
+        },
+    )
 }
