@@ -21,6 +21,9 @@ const TOKS: usize = 120;
 // The most variables of a rule.
 const VARS: usize = 32;
 
+// The most steps of a list.
+const MOST: usize = 256;
+
 /// Why a list is not accepted: the input is refused; it has a wrong length; a bad step; its last fact is not the query.
 #[derive(Clone, Copy, Debug, PartialEq, Eq)]
 pub enum Rejected {
@@ -90,7 +93,7 @@ pub fn checked_place(c: Checked) -> usize
 #[tactic(auto, using(crate::proofs::AnswerCases::answers))]
 fn check_good(tables: &Tables, steps: &[u8], form: Form) -> Checked
     requires { GoodInput form.hyps form.toks tables.now.symbols.now tables.now.rules.now tables.now.query.now }
-    ensures { result ≡ check_good form.hyps form.toks 256 tables.now.symbols.now tables.now.rules.now tables.now.query.now steps.now }
+    ensures { result ≡ check_good form.hyps form.toks form.most tables.now.symbols.now tables.now.rules.now tables.now.query.now steps.now }
 {
     if !form.whole(steps.len()) {
         return Err(Rejected::Length);
@@ -125,6 +128,7 @@ pub fn check_steps(tables: &Tables, steps: &[u8]) -> Checked
         Form {
             hyps: HYPS,
             toks: TOKS,
+            most: MOST,
         },
     )
 }

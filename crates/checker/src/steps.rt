@@ -10,9 +10,6 @@ use records::rules::{tokens, tokens_good};
 use records::tables::Tables;
 use terms::Facts;
 
-// The most steps of a list.
-const MOST: usize = 256;
-
 // The number that two bytes at a place hold, the low one first.
 #[tactic(auto, unfolding(crate::specs::Steps::two))]
 fn two(s: &[u8], i: usize) -> usize
@@ -23,13 +20,15 @@ fn two(s: &[u8], i: usize) -> usize
     usize::from(u16::from_le_bytes([byte_at(s, i), byte_at(s, i + 1)]))
 }
 
-// What steps have room for: `hyps` slots, each for the number of a step that is used, and `toks` tokens.
+// What steps have room for: `hyps` slots, each for the number of a step that is used, and `toks` tokens; and the most steps of a list.
 #[derive(Clone, Copy)]
 pub(crate) struct Form {
     pub hyps: usize,
     pub toks: usize,
+    pub most: usize,
+    ghost few_slots: { hyps ≤ 255 },
     ghost few_tokens: { toks ≤ 248 },
-    ghost short_lists: { 256 * (4 + 2 * hyps + toks) ≤ 65534 },
+    ghost short_lists: { most * (4 + 2 * hyps + toks) ≤ 65534 },
 }
 
 impl Form {
@@ -50,9 +49,9 @@ impl Form {
     // Are n bytes whole steps, and not too many?
     #[tactic(auto, unfolding(crate::specs::Steps::steps_length, model::specs::Term::both))]
     pub(crate) fn whole(self, n: usize) -> bool
-        ensures { result ≡ steps_length self.hyps self.toks MOST n }
+        ensures { result ≡ steps_length self.hyps self.toks self.most n }
     {
-        1 <= n && n <= MOST * self.size() && n % self.size() == 0
+        1 <= n && n <= self.most * self.size() && n % self.size() == 0
     }
 
     // The very tokens of a step.
