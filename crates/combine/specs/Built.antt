@@ -1,5 +1,5 @@
 -- The text of the conclusion and the kept hypotheses as it grows fact by fact, and the laws that the code's proofs cite. Assumes nothing.
-use Rattle.std.specs.Prelude.{ℕ, zero, suc, ◌+◌, ◌*◌, ◌-◌, ◌≤◌, ◌<◌, Bool, ◌≡◌, refl, ◌⊎◌, take, get_or, set}
+use Rattle.std.specs.Prelude.{ℕ, zero, suc, ◌+◌, ◌*◌, ◌-◌, ◌≤◌, ◌<◌, Bool, ◌≡◌, refl, ◌⊎◌, take, get_or, set, Result, Ok, Err}
 use Rattle.std.proofs.Common.{arith, ◌∙◌, subst, inr, length-append, take_at, take-take, get_or-set_same, get_or-set_other}
 use Rattle.std.proofs.Math.Bool.{true, false}
 use mathlib.Core.List.{List, [], ◌∷◌, ◌++◌, append_assoc, append-nil}
@@ -18,8 +18,7 @@ use Rattle.unify.specs.Nodes.{graph, tok, args_in, args_length}
 use Rattle.unify.specs.Facts.{facts, Given, facts_length}
 use Rattle.unify.specs.Writer.{codes, codes_all, codes_size, codes_all_append, Writes, Wrote, Asked}
 use Rattle.combine.specs.declared.State.{State}
-use Rattle.combine.specs.declared.Added.{Added}
-use Rattle.combine.specs.declared.Added.TheVariants.{Went, TooLarge}
+use Rattle.combine.specs.declared.TooLarge.{TooLarge}
 use Rattle.combine.specs.Codes.{Keeps, kvar, kcon, kapp, KeepAll, keep_append, all_size}
 use Rattle.combine.specs.Copies.{Says, Copy, Marks, copy_says, firsts_old, firsts_new, more_size, more_count, among_size, size_all_append}
 
@@ -93,9 +92,9 @@ pub record Over (sy ts s : List ℕ) (T hyps : ℕ) (ns : List ℕ) : Type 0 whe
   pub reads : ReadsAll (graph sy ts) s ns (concl ∷ done)
   pub over : (T < size concl + size_all (firsts [] done)) ⊎ (hyps < length (firsts [] done))
 
-abbrev pub Outcome : List ℕ → List ℕ → List ℕ → ℕ → ℕ → List ℕ → List ℕ → List ℕ → Added → Type 0
-Outcome sy ts s T hyps o starts ns (Went st) = Built sy ts s T hyps o starts st.end st.count ns
-Outcome sy ts s T hyps o starts ns TooLarge = Over sy ts s T hyps ns
+abbrev pub Outcome : List ℕ → List ℕ → List ℕ → ℕ → ℕ → List ℕ → List ℕ → List ℕ → Result State TooLarge → Type 0
+Outcome sy ts s T hyps o starts ns (Ok st) = Built sy ts s T hyps o starts st.end st.count ns
+Outcome sy ts s T hyps o starts ns (Err _) = Over sy ts s T hyps ns
 
 -- What adding a fact needs.
 pub record Ready (sy : List ℕ) (T hyps : ℕ) (a b s o starts : List ℕ) (st : State) : Type 0 where

@@ -57,7 +57,7 @@ pub record Combines (sy a b : List ℕ) (at : ℕ) (r r' : Rule) (k : ℕ) (h : 
   pub place : at ≡ span (arity_of sy) (suc k) (tokens_of b)
 
 -- The answer: there is a combination; where it fits, the record holds it and all behind its tokens stays.
-pub record Result (T hyps vars : ℕ) (r r' : Rule) (k : ℕ) (old new : List ℕ) (ok : Bool) : Type 0 where
+pub record CombinationIs (T hyps vars : ℕ) (r r' : Rule) (k : ℕ) (old new : List ℕ) (ok : Bool) : Type 0 where
   pub rule : Rule
   pub is : combine r r' k ≡ some rule
   pub fit : fits (limits hyps T vars) rule ≡ ok
@@ -321,7 +321,7 @@ module _ (sy : List ℕ) (T hyps vars at : ℕ) (a b s o starts names rec : List
       (stands_b at h w.0 (ap (λ (n : ℕ). drop n (tokens_of b)) placed ∙ w.1)) at (refl, C.solved)
 
   -- The answer says which combination there is, whether it fits, and what was written.
-  pub result_of : (new : List ℕ) (ok : Bool) → Settled sy ts s T hyps vars rec new (all_nodes sy T a b at) ok → Result T hyps vars r r' k rec new ok
+  pub result_of : (new : List ℕ) (ok : Bool) → Settled sy ts s T hyps vars rec new (all_nodes sy T a b at) ok → CombinationIs T hyps vars r r' k rec new ok
   unfolding normal
   result_of new ok Z =
       let e = the_rule Z.concl Z.done Z.reads in
@@ -355,11 +355,11 @@ site_of sy T hyps vars at a b s o starts names rec C ha hb =
     }
 
 -- Any limits with these three numbers.
-pub result_fits : (L : Limits) (r r' : Rule) (k : ℕ) (old new : List ℕ) (ok : Bool) → (R : Result L.max_tokens L.max_hyps L.max_vars r r' k old new ok) → fits L R.rule ≡ ok
+pub result_fits : (L : Limits) (r r' : Rule) (k : ℕ) (old new : List ℕ) (ok : Bool) → (R : CombinationIs L.max_tokens L.max_hyps L.max_vars r r' k old new ok) → fits L R.rule ≡ ok
 result_fits L r r' k old new ok R = fits_limits L R.rule ∙ R.fit
 
 -- The combination fits: it is in the record, and the bytes behind its tokens stay.
-pub fitting_written : (L : Limits) (r r' : Rule) (k : ℕ) (old new : List ℕ) (ok : Bool) → Result L.max_tokens L.max_hyps L.max_vars r r' k old new ok
+pub fitting_written : (L : Limits) (r r' : Rule) (k : ℕ) (old new : List ℕ) (ok : Bool) → CombinationIs L.max_tokens L.max_hyps L.max_vars r r' k old new ok
     → (q : Rule) → combine r r' k ≡ some q → fits L q ≡ true → (ok ≡ true) × (new ≡ body L.max_tokens q ++ drop (L.max_tokens + 2) old)
 fitting_written L r r' k old new ok R q e f =
     let i = R.is in
@@ -368,7 +368,7 @@ fitting_written L r r' k old new ok R q e f =
     (y, R.bytes y ∙ ap (λ (x : Rule). body L.max_tokens x ++ drop (L.max_tokens + 2) old) z)
 
 -- It does not fit: the answer is false.
-pub unfitting_refused : (L : Limits) (r r' : Rule) (k : ℕ) (old new : List ℕ) (ok : Bool) → Result L.max_tokens L.max_hyps L.max_vars r r' k old new ok
+pub unfitting_refused : (L : Limits) (r r' : Rule) (k : ℕ) (old new : List ℕ) (ok : Bool) → CombinationIs L.max_tokens L.max_hyps L.max_vars r r' k old new ok
     → (q : Rule) → combine r r' k ≡ some q → fits L q ≡ false → ok ≡ false
 unfitting_refused L r r' k old new ok R q e f =
     let i = R.is in

@@ -1,5 +1,5 @@
 -- Variables numbered by first appearance: the numbers given so far as a set of digits, and the tokens written so far. Assumes nothing.
-use Rattle.std.specs.Prelude.{ℕ, zero, suc, ◌+◌, ◌*◌, ◌-◌, ◌^◌, ◌/◌, ◌%◌, ◌≤◌, ◌<◌, Bool, true, false, ◌≡◌, refl, eqb, length, take, get_or, set}
+use Rattle.std.specs.Prelude.{ℕ, zero, suc, ◌+◌, ◌*◌, ◌-◌, ◌^◌, ◌/◌, ◌%◌, ◌≤◌, ◌<◌, Bool, true, false, ◌≡◌, refl, eqb, length, take, get_or, set, Result, Ok, Err}
 use Rattle.std.proofs.Common.{arith, pow-suc, ap₂, ◌∙◌, sym, subst, pow_pos, length-append, take-append-drop, drop_of_length-le, get_or-set_same, get_or-set_other, drop-cons, length-take-le, get_or-take, take-suc, eqb-true}
 use mathlib.Core.List.{List, [], ◌∷◌, ◌++◌, map, append_assoc, append-nil}
 use Rattle.std.proofs.Math.Path.{ap}
@@ -14,8 +14,7 @@ use Rattle.model.specs.Rule.{place}
 use Rattle.theory.specs.Basics.{no_confusion}
 use Rattle.terms.specs.Vars.{with_var}
 use Rattle.terms.proofs.Sets.{held_yes}
-use Rattle.combine.specs.declared.Numbering.{Numbering}
-use Rattle.combine.specs.declared.Numbering.TheVariants.{Is, Full}
+use Rattle.combine.specs.declared.TooLarge.{TooLarge}
 use Rattle.combine.specs.Codes.{code_vars, token, vars_low, vars_high, token_low, token_high}
 
 -- ---- the first n digits as a set
@@ -115,9 +114,9 @@ pub naming_rest : (vs names : List ℕ) (m vars : ℕ) (rest rest' : List ℕ) �
 naming_rest vs names m vars rest rest' e N = subst (Naming vs names m vars) e N
 
 -- What giving x its number answers.
-abbrev pub Named : List ℕ → List ℕ → ℕ → ℕ → List ℕ → Numbering → Type 0
-Named vs names x vars rest (Is m) = Naming vs names m vars rest × (get_or names x 0 ≡ suc (place x vs))
-Named vs names x vars rest Full = vars < length vs
+abbrev pub Named : List ℕ → List ℕ → ℕ → ℕ → List ℕ → Result ℕ TooLarge → Type 0
+Named vs names x vars rest (Ok m) = Naming vs names m vars rest × (get_or names x 0 ≡ suc (place x vs))
+Named vs names x vars rest (Err _) = vars < length vs
 
 module _ (vs names : List ℕ) (m vars x : ℕ) (rest : List ℕ) (N : Naming vs names m vars (x ∷ rest)) where
   is_seen : (get_or names x 0 ≡ 0 → ⊥) → elem x N.seen ≡ true
@@ -134,7 +133,7 @@ module _ (vs names : List ℕ) (m vars x : ℕ) (rest : List ℕ) (N : Naming vs
       go false e = refl
       go true e = absurd (omega (arith, N.told x e))
 
-  pub name_old : (get_or names x 0 ≡ 0 → ⊥) → Named vs names x vars rest (Is m)
+  pub name_old : (get_or names x 0 ≡ 0 → ⊥) → Named vs names x vars rest (Ok m)
   name_old h =
       let e = is_seen h in (
         record {
@@ -154,8 +153,8 @@ module _ (vs names : List ℕ) (m vars x : ℕ) (rest : List ℕ) (N : Naming vs
     new_whole : vs ≡ N.given ++ (x ∷ distinct (x ∷ N.seen) rest)
     new_whole = N.whole ∙ ap (N.given ++◌) (distinct_new N.seen x rest (is_new h))
 
-    pub name_full : vars ≤ ones m → Named vs names x vars rest Full
-    name_full l = omega (arith, count_given (length N.given) m N.bits, ap length new_whole, length-append N.given (x ∷ distinct (x ∷ N.seen) rest))
+    pub name_full : (r : TooLarge) → vars ≤ ones m → Named vs names x vars rest (Err r)
+    name_full r l = omega (arith, count_given (length N.given) m N.bits, ap length new_whole, length-append N.given (x ∷ distinct (x ∷ N.seen) rest))
 
     place_x : place x vs ≡ length N.given
     place_x = ap (place x) new_whole ∙ place_new x N.given (distinct (x ∷ N.seen) rest) (N.alike x ∙ is_new h)
@@ -167,7 +166,7 @@ module _ (vs names : List ℕ) (m vars x : ℕ) (rest : List ℕ) (N : Naming vs
       number : v ≡ length N.given + 1
       number = ev ∙ next_number (length N.given) m N.bits (omega (arith, small))
 
-      pub name_new : Named vs (set names x v) x vars rest (Is m')
+      pub name_new : Named vs (set names x v) x vars rest (Ok m')
       name_new =
           let n = length N.given in
           let f : length (N.given ++ (x ∷ [])) ≡ suc n = length-append N.given (x ∷ []) ∙ omega arith in
@@ -192,12 +191,6 @@ module _ (vs names : List ℕ) (m vars x : ℕ) (rest : List ℕ) (N : Naming vs
           known : (y : ℕ) → elem y (x ∷ N.seen) ≡ true → (c : Bool) → eqb y x ≡ c → get_or (set names x v) x 0 ≡ suc (place x vs) → get_or (set names x v) y 0 ≡ suc (place y vs)
           known y e true q t = subst (λ (k : ℕ). get_or (set names x v) k 0 ≡ suc (place k vs)) (sym (eqb-true y x q)) t
           known y e false q t = get_or-set_other names x y v 0 (eqb-false y x q) ∙ N.told y (sym (elem_there y x N.seen q) ∙ e)
-
-pub named_is : (vs names : List ℕ) (x vars : ℕ) (rest : List ℕ) (r : Numbering) (m : ℕ) → r ≡ Is m → Named vs names x vars rest r → Naming vs names m vars rest × (get_or names x 0 ≡ suc (place x vs))
-named_is vs names x vars rest r m e h = subst (Named vs names x vars rest) e h
-
-pub named_full : (vs names : List ℕ) (x vars : ℕ) (rest : List ℕ) (r : Numbering) → r ≡ Full → Named vs names x vars rest r → vars < length vs
-named_full vs names x vars rest r e h = subst (Named vs names x vars rest) e h
 
 -- ---- the tokens
 map_append : (f : ℕ → ℕ) (a b : List ℕ) → map f (a ++ b) ≡ map f a ++ map f b

@@ -1,12 +1,11 @@
 -- The nodes that one side gives: those of its hypotheses one after another, but for the one that is skipped. Assumes nothing.
-use Rattle.std.specs.Prelude.{ℕ, zero, suc, ◌+◌, ◌-◌, ◌≤◌, ◌<◌, true, false, List, [], ◌∷◌, ◌++◌, ◌≡◌, eqb, drop}
+use Rattle.std.specs.Prelude.{ℕ, zero, suc, ◌+◌, ◌-◌, ◌≤◌, ◌<◌, true, false, List, [], ◌∷◌, ◌++◌, ◌≡◌, eqb, drop, Result, Ok, Err}
 use Rattle.std.proofs.Common.{arith, append_assoc, append-nil, ap, ap₂, ◌∙◌, sym, subst, eq-eqb, ne_eqb}
 use Rattle.records.specs.Tokens.{span}
 use Rattle.unify.specs.Nodes.{graph, node}
 use Rattle.unify.specs.Inside.{Read}
 use Rattle.combine.specs.declared.State.{State}
-use Rattle.combine.specs.declared.Added.{Added}
-use Rattle.combine.specs.declared.Added.TheVariants.{Went, TooLarge}
+use Rattle.combine.specs.declared.TooLarge.{TooLarge}
 use Rattle.combine.specs.Built.{Built, Over, Outcome, over_more}
 
 -- The nodes of m facts of the tokens from the place `at` on, but for the one whose place is `skip`; ts are the tokens of both records.
@@ -61,12 +60,12 @@ module _ (sy ts s : List ℕ) (T hyps : ℕ) where
   along_skip o starts st all rest rest' ns e A = record { nodes = A.nodes; built = A.built; whole = A.whole ∙ ap (A.nodes ++◌) e }
 
   module _ (o o' starts starts' : List ℕ) (st : State) (all rest rest' ns : List ℕ) (i : ℕ) (e : rest ≡ i ∷ rest') (A : Along sy ts s T hyps o starts st all rest ns)
-      (r : Added) (R : (ms : List ℕ) → Built sy ts s T hyps o starts st.end st.count ms → Outcome sy ts s T hyps o' starts' (ms ++ (i ∷ [])) r)
+      (r : Result State TooLarge) (R : (ms : List ℕ) → Built sy ts s T hyps o starts st.end st.count ms → Outcome sy ts s T hyps o' starts' (ms ++ (i ∷ [])) r)
     where
       shift : ns ++ all ≡ (A.nodes ++ (i ∷ [])) ++ rest'
       shift = A.whole ∙ ap (A.nodes ++◌) e ∙ sym (append_assoc A.nodes (i ∷ []) rest')
 
-      pub along_went : (st' : State) → r ≡ Went st' → Along sy ts s T hyps o' starts' st' all rest' ns
+      pub along_went : (st' : State) → r ≡ Ok st' → Along sy ts s T hyps o' starts' st' all rest' ns
       along_went st' q =
           record {
             nodes = A.nodes ++ (i ∷ []);
@@ -74,8 +73,8 @@ module _ (sy ts s : List ℕ) (T hyps : ℕ) where
             whole = shift;
           }
 
-      pub along_over : ((j : ℕ) → Read (graph sy ts) s j) → r ≡ TooLarge → Over sy ts s T hyps (ns ++ all)
-      along_over reads q =
+      pub along_over : ((j : ℕ) → Read (graph sy ts) s j) → (x : TooLarge) → r ≡ Err x → Over sy ts s T hyps (ns ++ all)
+      along_over reads x q =
           subst (Over sy ts s T hyps) (sym shift)
           (over_more sy ts s T hyps (A.nodes ++ (i ∷ [])) rest' reads (subst (Outcome sy ts s T hyps o' starts' (A.nodes ++ (i ∷ []))) q (R A.nodes A.built)))
 

@@ -1,5 +1,5 @@
 -- The text of a rule becomes a record: whether it fits, and the bytes. Assumes nothing.
-use Rattle.std.specs.Prelude.{ℕ, ◌+◌, ◌*◌, ◌-◌, ◌≤◌, ◌<◌, Bool, true, false, not, ◌≡◌, refl, ◌⊎◌, leb, get_or}
+use Rattle.std.specs.Prelude.{ℕ, ◌+◌, ◌*◌, ◌-◌, ◌≤◌, ◌<◌, Bool, true, false, ◌≡◌, refl, ◌⊎◌, leb, get_or, Result}
 use native.Mathlib.Omega.{arith}
 use mathlib.Core.List.{List, [], ◌∷◌, ◌++◌, map, append_assoc, append-nil}
 use Rattle.std.proofs.Math.Path.{ap, ap₂, sym, subst}
@@ -21,8 +21,7 @@ use Rattle.unify.specs.Read.{ReadsAll}
 use Rattle.unify.specs.Writer.{codes_all}
 use Rattle.combine.specs.declared.State.{State}
 use Rattle.combine.specs.Codes.{code_vars, token, numbers, all_vars_lem, all_tokens, all_low, every_at}
-use Rattle.combine.specs.declared.Added.{Added}
-use Rattle.combine.specs.declared.Added.TheVariants.{Went, TooLarge}
+use Rattle.combine.specs.declared.TooLarge.{TooLarge}
 use Rattle.combine.specs.Built.{Site, Built, Over, Outcome, over_more}
 use Rattle.combine.specs.Places.{visits}
 use Rattle.combine.specs.Numbers.{Numbered, put_next}
@@ -51,12 +50,6 @@ pub tokens_short : (T : ℕ) (rec tk : List ℕ) → get_or rec 1 0 ≤ T → tk
 unfolding tokens_of
 tokens_short T rec tk l e = omega (arith, ap length e, length-take (get_or rec 1 0) (drop 2 rec))
 
-pub went_built : (sy ts s : List ℕ) (T hyps : ℕ) (o starts ns : List ℕ) (r : Added) (st : State) → r ≡ Went st → Outcome sy ts s T hyps o starts ns r → Built sy ts s T hyps o starts st.end st.count ns
-went_built sy ts s T hyps o starts ns r st e h = subst (Outcome sy ts s T hyps o starts ns) e h
-
-pub large_over : (sy ts s : List ℕ) (T hyps : ℕ) (o starts ns : List ℕ) (r : Added) → r ≡ TooLarge → Outcome sy ts s T hyps o starts ns r → Over sy ts s T hyps ns
-large_over sy ts s T hyps o starts ns r e h = subst (Outcome sy ts s T hyps o starts ns) e h
-
 module _ (sy : List ℕ) (T hyps at : ℕ) (a b s : List ℕ) (S : Site sy T a b s) where
   abbrev both : List ℕ
   both = facts T a b
@@ -77,7 +70,7 @@ module _ (sy : List ℕ) (T hyps at : ℕ) (a b s : List ℕ) (S : Site sy T a b
       (subst (λ (l : List ℕ). Over sy both s T hyps (node both T ∷ l)) (side_same sy both 0 (T + at) a tk n e q) v)
 
   pub all_outcome :
-      (tk : List ℕ) (n : ℕ) (uk : List ℕ) (m : ℕ) → tk ≡ tokens_of a → n ≡ get_or a 0 0 → uk ≡ tokens_of b → m ≡ get_or b 0 0 → (o starts : List ℕ) (r : Added)
+      (tk : List ℕ) (n : ℕ) (uk : List ℕ) (m : ℕ) → tk ≡ tokens_of a → n ≡ get_or a 0 0 → uk ≡ tokens_of b → m ≡ get_or b 0 0 → (o starts : List ℕ) (r : Result State TooLarge)
       → Outcome sy both s T hyps o starts (((node both T ∷ []) ++ side_of 0 (T + at) tk n) ++ side_of T (T + at) uk m) r → Outcome sy both s T hyps o starts (all_nodes sy T a b at) r
   unfolding all_nodes
   all_outcome tk n uk m e q f p o starts r h =
@@ -297,14 +290,6 @@ module _ (sy ts s : List ℕ) (T hyps vars : ℕ) (o starts : List ℕ) (e n : �
       }
 
 -- ---- for the code's answers
-pub numbered_no : (text : List ℕ) (vars : ℕ) (old new : List ℕ) (c : Bool) → not c ≡ true → Numbered text vars old new c → Numbered text vars old new false
-numbered_no text vars old new true e h = no_confusion (cc)
-numbered_no text vars old new false e h = h
-
-pub numbered_yes : (text : List ℕ) (vars : ℕ) (old new : List ℕ) (c : Bool) → not c ≡ false → Numbered text vars old new c → Numbered text vars old new true
-numbered_yes text vars old new true e h = h
-numbered_yes text vars old new false e h = no_confusion (cc)
-
 -- each code of the text is a byte or a variable's
 pub built_low : (sy ts s : List ℕ) (T hyps : ℕ) (o starts : List ℕ) (e n : ℕ) (ns : List ℕ) → Built sy ts s T hyps o starts e n ns → (i : ℕ) → i < e → get_or o i 0 < 384
 built_low sy ts s T hyps o starts e n ns B i l =

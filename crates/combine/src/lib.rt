@@ -1,6 +1,6 @@
 #![tactic(auto)]
 
-ghost use Rattle.std.specs.Prelude.{◌≡◌, List, [], ◌∷◌, ◌++◌, ℕ, ◌+◌, ◌-◌, ◌*◌, ◌≤◌, ◌<◌, length, take, drop, set};
+ghost use Rattle.std.specs.Prelude.{◌≡◌, List, [], ◌∷◌, ◌++◌, ℕ, ◌+◌, ◌-◌, ◌*◌, ◌≤◌, ◌<◌, length, take, drop, set, is_ok};
 ghost use Rattle.std.specs.Int.Count.{count_trailing_zeros};
 ghost use Rattle.model.specs.Term.{Term};
 ghost use Rattle.model.specs.Rule.{Rule};
@@ -13,33 +13,23 @@ ghost use Rattle.combine.specs.Built.{Site, Bounded, Built, Ready, Outcome};
 ghost use Rattle.combine.specs.Places.{visits};
 ghost use Rattle.combine.specs.Numbers.{Naming, Named, Numbered};
 ghost use Rattle.combine.specs.Settle.{Sheets, all_nodes, Numberable, blanked, Writable, Settled};
-ghost use Rattle.combine.specs.Final.{Combinable, Combines, Result};
+ghost use Rattle.combine.specs.Final.{Combinable, Combines, CombinationIs};
 
 use records::parts::wide;
 use records::rules::tokens;
 use terms::{fact_start, span, with};
 use unify::{node_at, write};
 
-// Where the text of what is kept ends, and how many hypotheses are kept.
-#[derive(Clone, Copy)]
+/// Where the text of what is kept ends, and how many hypotheses are kept.
+#[derive(Clone, Copy, Debug, PartialEq, Eq)]
 pub struct State {
     pub end: usize,
     pub count: usize,
 }
 
-// One fact more went in, or the rule is too large.
-#[derive(Clone, Copy)]
-pub enum Added {
-    Went(State),
-    TooLarge,
-}
-
-// The set of the numbers given, or no number was left.
-#[derive(Clone, Copy)]
-pub enum Numbering {
-    Is(u32),
-    Full,
-}
+/// The rule does not fit: more hypotheses, tokens or variables than allowed.
+#[derive(Clone, Copy, Debug, PartialEq, Eq)]
+pub struct TooLarge;
 
 fn wide16(x: u16) -> usize
     ensures { (result ≡ x) × (result < 65536) }
@@ -93,7 +83,7 @@ fn start(
     rep: &[u16],
     o: &mut [u16],
     place: usize,
-) -> Added
+) -> Result<State, TooLarge>
     requires { Site symbols.now toks a.now b.now rep.now × ((length o.old ≡ 2 * toks) × (place ≤ 2 * toks)) }
     ensures { (hyps : ℕ) (starts : List ℕ) → Outcome symbols.now (facts toks a.now b.now) rep.now toks hyps o.new starts (node (facts toks a.now b.now) place ∷ []) result }
 {
@@ -109,9 +99,9 @@ fn start(
         node_at(a, b, toks, place),
     );
     if toks < e {
-        return Added::TooLarge;
+        return Err(TooLarge);
     }
-    Added::Went(State { end: e, count: 0 })
+    Ok(State { end: e, count: 0 })
 }
 
 // Adds the instance of the fact at a place, unless it is a copy of one that is kept.
@@ -126,7 +116,7 @@ fn add(
     starts: &mut [u16],
     s: State,
     place: usize,
-) -> Added
+) -> Result<State, TooLarge>
     requires { Ready symbols.now toks hyps a.now b.now rep.now o.old starts.old s × (place ≤ 2 * toks) }
     ensures { (ns : List ℕ) → Built symbols.now (facts toks a.now b.now) rep.now toks hyps o.old starts.old s.end s.count ns → Outcome symbols.now (facts toks a.now b.now) rep.now toks hyps o.new starts.new (ns ++ (node (facts toks a.now b.now) place ∷ [])) result }
 {
@@ -145,22 +135,19 @@ fn add(
         node_at(a, b, toks, place),
     );
     if cap < e {
-        return Added::TooLarge;
+        return Err(TooLarge);
     }
     if is_copy(o, starts, count, end, e - end) {
-        return Added::Went(State {
-            end: end,
-            count: count,
-        });
+        return Ok(s);
     }
     if toks < e {
-        return Added::TooLarge;
+        return Err(TooLarge);
     }
     if hyps <= count {
-        return Added::TooLarge;
+        return Err(TooLarge);
     }
     put(starts, count, end);
-    Added::Went(State {
+    Ok(State {
         end: e,
         count: count + 1,
     })
@@ -181,7 +168,7 @@ fn add_side(
     n: usize,
     base: usize,
     skip: usize,
-) -> Added
+) -> Result<State, TooLarge>
     requires { Ready symbols.now toks hyps a.now b.now rep.now o.old starts.old s × (base + length tokens.now ≤ 2 * toks) }
     ensures { (ns : List ℕ) → Built symbols.now (facts toks a.now b.now) rep.now toks hyps o.old starts.old s.end s.count ns → Outcome symbols.now (facts toks a.now b.now) rep.now toks hyps o.new starts.new (ns ++ visits (arity_of symbols.now) (facts toks a.now b.now) tokens.now base skip n (span_of (arity_of symbols.now) 1 tokens.now)) result }
 {
@@ -195,12 +182,9 @@ fn add_side(
         if p == skip {
             continue;
         }
-        let Added::Went(next) = add(symbols, a, b, toks, hyps, rep, o, starts, st, p) else {
-            return Added::TooLarge;
-        };
-        st = next;
+        st = add(symbols, a, b, toks, hyps, rep, o, starts, st, p)?;
     }
-    Added::Went(st)
+    Ok(st)
 }
 
 // Gathers the rule: the conclusion of b, the hypotheses of a, and those of b but the one at `at`.
@@ -214,15 +198,13 @@ fn gathered(
     rep: &[u16],
     o: &mut [u16],
     starts: &mut [u16],
-) -> Added
+) -> Result<State, TooLarge>
     requires { Site symbols.now toks a.now b.now rep.now × Sheets toks hyps at a.now b.now o.old starts.old }
     ensures { Outcome symbols.now (facts toks a.now b.now) rep.now toks hyps o.new starts.new (all_nodes symbols.now toks a.now b.now at) result }
 {
-    let Added::Went(s) = start(symbols, a, b, toks, rep, o, toks) else {
-        return Added::TooLarge;
-    };
+    let s = start(symbols, a, b, toks, rep, o, toks)?;
     let skip = toks + at;
-    let Added::Went(t) = add_side(
+    let t = add_side(
         symbols,
         a,
         b,
@@ -236,9 +218,7 @@ fn gathered(
         wide(a[0]),
         0,
         skip,
-    ) else {
-        return Added::TooLarge;
-    };
+    )?;
     add_side(
         symbols,
         a,
@@ -264,25 +244,31 @@ fn next(set: u32) -> u8
 }
 
 // Gives the variable x the next number, unless it has one or all are given.
-fn name(names: &mut [u8], x: usize, set: u32, vars: usize) -> Numbering
+fn name(names: &mut [u8], x: usize, set: u32, vars: usize) -> Result<u32, TooLarge>
     requires { (x < length names.old) × (vars ≤ 32) }
     ensures { (vs : List ℕ) (rest : List ℕ) → Naming vs names.old set vars (x ∷ rest) → Named vs names.new x vars rest result }
 {
     if names[x] != 0 {
-        return Numbering::Is(set);
+        return Ok(set);
     }
     if vars <= u32::count_ones(set) as usize {
-        return Numbering::Full;
+        return Err(TooLarge);
     }
     let v = next(set);
     names[x] = v;
-    Numbering::Is(with(set, v))
+    Ok(with(set, v))
 }
 
-// Writes the tokens of a text behind the counts, its variables numbered by first appearance; false where there are more than `vars`.
-fn number(o: &[u16], end: usize, vars: usize, names: &mut [u8], rec: &mut [u8]) -> bool
+// Writes the tokens of a text behind the counts, its variables numbered by first appearance; none where there are more than `vars`.
+fn number(
+    o: &[u16],
+    end: usize,
+    vars: usize,
+    names: &mut [u8],
+    rec: &mut [u8],
+) -> Result<(), TooLarge>
     requires { Numberable o.now end vars names.old rec.old }
-    ensures { Numbered (take end o.now) vars rec.old rec.new result }
+    ensures { Numbered (take end o.now) vars rec.old rec.new (is_ok result) }
 {
     let mut set: u32 = 0;
     let mut i: usize = 0;
@@ -294,14 +280,11 @@ fn number(o: &[u16], end: usize, vars: usize, names: &mut [u8], rec: &mut [u8]) 
             continue;
         }
         let x = c - 256;
-        let Numbering::Is(more) = name(names, x, set, vars) else {
-            return false;
-        };
+        set = name(names, x, set, vars)?;
         rec[i + 2] = names[x];
-        set = more;
         i += 1;
     }
-    true
+    Ok(())
 }
 
 // Zeros from one place up to another.
@@ -317,20 +300,25 @@ fn blank(s: &mut [u8], from: usize, to: usize)
 }
 
 // Writes the rule that a text holds; false where it has more than `vars` variables.
-fn written(o: &[u16], s: State, toks: usize, vars: usize, names: &mut [u8], rec: &mut [u8]) -> bool
+fn written(
+    o: &[u16],
+    s: State,
+    toks: usize,
+    vars: usize,
+    names: &mut [u8],
+    rec: &mut [u8],
+) -> Result<(), TooLarge>
     requires { Writable o.now s toks vars names.old rec.old }
-    ensures { (sy ts srep : List ℕ) (hyps : ℕ) (starts ns : List ℕ) → Built sy ts srep toks hyps o.now starts s.end s.count ns → Settled sy ts srep toks hyps vars rec.old rec.new ns result }
+    ensures { (sy ts srep : List ℕ) (hyps : ℕ) (starts ns : List ℕ) → Built sy ts srep toks hyps o.now starts s.end s.count ns → Settled sy ts srep toks hyps vars rec.old rec.new ns (is_ok result) }
 {
     let end = s.end;
     let count = s.count;
     blank(names, 0, 128);
-    if !number(o, end, vars, names, rec) {
-        return false;
-    }
+    number(o, end, vars, names, rec)?;
     blank(rec, end + 2, toks + 2);
     rec[0] = count as u8;
     rec[1] = end as u8;
-    true
+    Ok(())
 }
 
 // Writes the combination of the rules in a and b upon the hypothesis at the place `at` of b, after `unify` found the classes `rep`.
@@ -348,12 +336,10 @@ pub fn combined(
     starts: &mut [u16],
     names: &mut [u8],
     rec: &mut [u8],
-) -> bool
+) -> Result<(), TooLarge>
     requires { Combinable symbols.now toks hyps vars at a.now b.now rep.now o.old starts.old names.old rec.old }
-    ensures { (r : Rule) (r' : Rule) (k : ℕ) (h : Term) → Combines symbols.now a.now b.now at r r' k h → Result toks hyps vars r r' k rec.old rec.new result }
+    ensures { (r : Rule) (r' : Rule) (k : ℕ) (h : Term) → Combines symbols.now a.now b.now at r r' k h → CombinationIs toks hyps vars r r' k rec.old rec.new (is_ok result) }
 {
-    let Added::Went(s) = gathered(symbols, a, b, toks, hyps, at, rep, o, starts) else {
-        return false;
-    };
+    let s = gathered(symbols, a, b, toks, hyps, at, rep, o, starts)?;
     written(o, s, toks, vars, names, rec)
 }

@@ -5,6 +5,7 @@ use Rattle.records.specs.Tokens.{span}
 use Rattle.records.specs.Symbols.{arity_of}
 use Rattle.unify.specs.Facts.{facts}
 use Rattle.unify.specs.Nodes.{node}
+use Rattle.std.proofs.lemmas.Result.{err_from_is_err_and}
 use Rattle.combine.specs.Places.{visits, along_start, along_skip, along_went, along_over, along_end, visit_skip, visit_node, visit_none}
 use Rattle.combine.proofs.add_side.Goals as goal
 
@@ -50,20 +51,13 @@ add-requires c =
     (record { site = c.requires.0.site; room = omega (arith, c.loop-k.invariant.3, c.requires.0.room); space = c.loop-k.invariant.2 ∙ c.requires.0.space; nodes = A.nodes; built = A.built }, omega (arith, c.loop-k.invariant.0, c.requires.1))
 
 -- src/lib.rt:126:13
-pub shape_of-o-in_default : goal.shape_of-o-in_default
-shape_of-o-in_default c = c.add.auto.o ∙ c.loop-k.invariant.2
-
--- src/lib.rt:126:13
-pub shape_of-starts-in_default : goal.shape_of-starts-in_default
-shape_of-starts-in_default c = c.add.auto.starts ∙ c.loop-k.invariant.3
-
--- src/lib.rt:126:13
-pub returns-in_default : goal.returns-in_default
-returns-in_default c =
+pub returns-in_err-st : goal.returns-in_err-st
+returns-in_err-st c =
+    let p = err_from_is_err_and c.from_residual.result c.from_residual.ensures.1 in
     let a = c.args in
     let ts = facts a.toks a.a.now a.b.now in
     let ar = arity_of a.symbols.now in
-    λ ns B. along_over a.symbols.now ts a.rep.now a.toks a.hyps c.loop-k.o _ c.loop-k.starts _ c.loop-k.st (visits ar ts a.tokens.now a.base a.skip a.n (span ar 1 a.tokens.now)) (visits ar ts a.tokens.now a.base a.skip (a.n - c.loop-k.k) c.loop-k.at) (visits ar ts a.tokens.now a.base a.skip (a.n - (c.loop-k.k + 1)) (c.loop-k.at + c.span-at.result)) ns (node ts (a.base + c.loop-k.at)) (visit_node ar ts a.tokens.now a.base a.skip a.n c.loop-k.k c.loop-k.at c.span-at.result (a.base + c.loop-k.at) c.loop-k-test.true c.span-at.ensures.0 refl c.if-p-skip.false) (c.loop-k.invariant.4 ns B) c.add.result c.add.ensures c.requires.0.site.reads c.in_default.is
+    rw p.1 (λ ns B. along_over a.symbols.now ts a.rep.now a.toks a.hyps c.loop-k.o _ c.loop-k.starts _ c.loop-k.st (visits ar ts a.tokens.now a.base a.skip a.n (span ar 1 a.tokens.now)) (visits ar ts a.tokens.now a.base a.skip (a.n - c.loop-k.k) c.loop-k.at) (visits ar ts a.tokens.now a.base a.skip (a.n - (c.loop-k.k + 1)) (c.loop-k.at + c.span-at.result)) ns (node ts (a.base + c.loop-k.at)) (visit_node ar ts a.tokens.now a.base a.skip a.n c.loop-k.k c.loop-k.at c.span-at.result (a.base + c.loop-k.at) c.loop-k-test.true c.span-at.ensures.0 refl c.if-p-skip.false) (c.loop-k.invariant.4 ns B) c.add.result c.add.ensures c.requires.0.site.reads _ c.in_err-st.was)
 
 -- src/lib.rt:118:5
 pub loop-k-preserved : goal.loop-k-preserved
@@ -71,7 +65,7 @@ loop-k-preserved c =
     let a = c.args in
     let ts = facts a.toks a.a.now a.b.now in
     let ar = arity_of a.symbols.now in
-    (omega (arith, c.span-at.ensures.1), omega arith, c.add.auto.o ∙ c.loop-k.invariant.2, c.add.auto.starts ∙ c.loop-k.invariant.3, λ ns B. along_went a.symbols.now ts a.rep.now a.toks a.hyps c.loop-k.o _ c.loop-k.starts _ c.loop-k.st (visits ar ts a.tokens.now a.base a.skip a.n (span ar 1 a.tokens.now)) (visits ar ts a.tokens.now a.base a.skip (a.n - c.loop-k.k) c.loop-k.at) (visits ar ts a.tokens.now a.base a.skip (a.n - (c.loop-k.k + 1)) (c.loop-k.at + c.span-at.result)) ns (node ts (a.base + c.loop-k.at)) (visit_node ar ts a.tokens.now a.base a.skip a.n c.loop-k.k c.loop-k.at c.span-at.result (a.base + c.loop-k.at) c.loop-k-test.true c.span-at.ensures.0 refl c.if-p-skip.false) (c.loop-k.invariant.4 ns B) c.add.result c.add.ensures _ c.in-Went.is)
+    (omega (arith, c.span-at.ensures.1), omega arith, c.add.auto.o ∙ c.loop-k.invariant.2, c.add.auto.starts ∙ c.loop-k.invariant.3, λ ns B. along_went a.symbols.now ts a.rep.now a.toks a.hyps c.loop-k.o _ c.loop-k.starts _ c.loop-k.st (visits ar ts a.tokens.now a.base a.skip a.n (span ar 1 a.tokens.now)) (visits ar ts a.tokens.now a.base a.skip (a.n - c.loop-k.k) c.loop-k.at) (visits ar ts a.tokens.now a.base a.skip (a.n - (c.loop-k.k + 1)) (c.loop-k.at + c.span-at.result)) ns (node ts (a.base + c.loop-k.at)) (visit_node ar ts a.tokens.now a.base a.skip a.n c.loop-k.k c.loop-k.at c.span-at.result (a.base + c.loop-k.at) c.loop-k-test.true c.span-at.ensures.0 refl c.if-p-skip.false) (c.loop-k.invariant.4 ns B) c.add.result c.add.ensures _ c.in_ok-st.was)
 
 -- src/lib.rt:111:1
 pub shape_of-o : goal.shape_of-o

@@ -4,21 +4,19 @@ use mathlib.Core.List.{[], ◌∷◌}
 use native.Mathlib.Omega.{arith}
 use Rattle.unify.specs.Facts.{facts}
 use Rattle.unify.specs.Nodes.{node}
-use Rattle.combine.specs.Settle.{went_built, large_over, start_over, left_over, all_outcome, tokens_short}
+use Rattle.std.proofs.lemmas.Result.{err_from_is_err_and}
+use Rattle.combine.specs.Settle.{start_over, left_over, all_outcome, tokens_short}
 use Rattle.combine.proofs.gathered.Goals as goal
 
 pub start-requires : goal.start-requires
 start-requires c = (c.requires.0, (c.requires.1.space, omega arith))
 
 -- src/lib.rt:154:9
-pub shape_of-o-in_default : goal.shape_of-o-in_default
-shape_of-o-in_default c = c.start.auto.o
-
--- src/lib.rt:154:9
-pub returns-in_default : goal.returns-in_default
-returns-in_default c =
+pub returns-in_err-s : goal.returns-in_err-s
+returns-in_err-s c =
+    let p = err_from_is_err_and c.from_residual.result c.from_residual.ensures.1 in
     let a = c.args in
-    start_over a.symbols.now a.toks a.hyps a.at a.a.now a.b.now a.rep.now c.requires.0 (large_over a.symbols.now (facts a.toks a.a.now a.b.now) a.rep.now a.toks a.hyps _ a.starts.now (node (facts a.toks a.a.now a.b.now) a.toks ∷ []) c.start.result c.in_default.is (c.start.ensures a.hyps a.starts.now))
+    rw p.1 (start_over a.symbols.now a.toks a.hyps a.at a.a.now a.b.now a.rep.now c.requires.0 (c.in_err-s.ensures a.hyps a.starts.now))
 
 -- src/lib.rt:156:16
 pub overflow_add-skip : goal.overflow_add-skip
@@ -32,21 +30,14 @@ bounds-a-0 c = omega (arith, c.requires.0.given.len_a)
 pub add_side-requires : goal.add_side-requires
 add_side-requires c =
     let a = c.args in
-    (record { site = c.requires.0; room = c.requires.1.room; space = c.start.auto.o ∙ c.requires.1.space; nodes = (node (facts a.toks a.a.now a.b.now) a.toks ∷ []); built = (went_built a.symbols.now (facts a.toks a.a.now a.b.now) a.rep.now a.toks a.hyps _ a.starts.now (node (facts a.toks a.a.now a.b.now) a.toks ∷ []) c.start.result _ c.in-Went.is (c.start.ensures a.hyps a.starts.now)) }, omega (arith, tokens_short a.toks a.a.now c.tokens.result.now c.requires.1.count_a c.tokens.ensures))
+    (record { site = c.requires.0; room = c.requires.1.room; space = c.start.auto.o ∙ c.requires.1.space; nodes = (node (facts a.toks a.a.now a.b.now) a.toks ∷ []); built = c.in_ok-s.ensures a.hyps a.starts.now }, omega (arith, tokens_short a.toks a.a.now c.tokens.result.now c.requires.1.count_a c.tokens.ensures))
 
 -- src/lib.rt:158:9
-pub shape_of-o-in_default-add_side : goal.shape_of-o-in_default-add_side
-shape_of-o-in_default-add_side c = c.add_side.auto.o ∙ c.start.auto.o
-
--- src/lib.rt:158:9
-pub shape_of-starts-in_default-add_side : goal.shape_of-starts-in_default-add_side
-shape_of-starts-in_default-add_side c = c.add_side.auto.starts
-
--- src/lib.rt:158:9
-pub returns-in_default-add_side : goal.returns-in_default-add_side
-returns-in_default-add_side c =
+pub returns-in_err-t : goal.returns-in_err-t
+returns-in_err-t c =
+    let p = err_from_is_err_and c.from_residual-in_err-t.result c.from_residual-in_err-t.ensures.1 in
     let a = c.args in
-    left_over a.symbols.now a.toks a.hyps a.at a.a.now a.b.now a.rep.now c.requires.0 c.tokens.result.now c.wide.result c.tokens.ensures c.wide.ensures.0 (large_over a.symbols.now (facts a.toks a.a.now a.b.now) a.rep.now a.toks a.hyps _ _ _ c.add_side.result c.in_default-add_side.is (c.add_side.ensures (node (facts a.toks a.a.now a.b.now) a.toks ∷ []) (went_built a.symbols.now (facts a.toks a.a.now a.b.now) a.rep.now a.toks a.hyps _ a.starts.now (node (facts a.toks a.a.now a.b.now) a.toks ∷ []) c.start.result _ c.in-Went.is (c.start.ensures a.hyps a.starts.now))))
+    rw p.1 (left_over a.symbols.now a.toks a.hyps a.at a.a.now a.b.now a.rep.now c.requires.0 c.tokens.result.now c.wide.result c.tokens.ensures c.wide.ensures.0 (c.in_err-t.ensures (node (facts a.toks a.a.now a.b.now) a.toks ∷ []) (c.in_ok-s.ensures a.hyps a.starts.now)))
 
 -- src/lib.rt:160:76
 pub bounds-b-0 : goal.bounds-b-0
@@ -56,7 +47,7 @@ bounds-b-0 c = omega (arith, c.requires.0.given.len_b)
 pub add_side-requires-2 : goal.add_side-requires-2
 add_side-requires-2 c =
     let a = c.args in
-    (record { site = c.requires.0; room = omega (arith, c.add_side.auto.starts, c.requires.1.room); space = c.add_side.auto.o ∙ c.start.auto.o ∙ c.requires.1.space; nodes = _; built = (went_built a.symbols.now (facts a.toks a.a.now a.b.now) a.rep.now a.toks a.hyps _ _ _ c.add_side.result _ c.in-Went-add_side.is (c.add_side.ensures (node (facts a.toks a.a.now a.b.now) a.toks ∷ []) (went_built a.symbols.now (facts a.toks a.a.now a.b.now) a.rep.now a.toks a.hyps _ a.starts.now (node (facts a.toks a.a.now a.b.now) a.toks ∷ []) c.start.result _ c.in-Went.is (c.start.ensures a.hyps a.starts.now)))) }, omega (arith, tokens_short a.toks a.b.now c.tokens-2.result.now c.requires.1.count_b c.tokens-2.ensures))
+    (record { site = c.requires.0; room = omega (arith, c.add_side.auto.starts, c.requires.1.room); space = c.add_side.auto.o ∙ c.start.auto.o ∙ c.requires.1.space; nodes = _; built = (c.in_ok-t.ensures (node (facts a.toks a.a.now a.b.now) a.toks ∷ []) (c.in_ok-s.ensures a.hyps a.starts.now)) }, omega (arith, tokens_short a.toks a.b.now c.tokens-2.result.now c.requires.1.count_b c.tokens-2.ensures))
 
 -- src/lib.rt:149:1
 pub shape_of-o : goal.shape_of-o
@@ -71,4 +62,4 @@ shape_of-starts c = c.add_side-2.auto.starts ∙ c.add_side.auto.starts
 pub returns : goal.returns
 returns c =
     let a = c.args in
-    all_outcome a.symbols.now a.toks a.hyps a.at a.a.now a.b.now a.rep.now c.requires.0 c.tokens.result.now c.wide.result c.tokens-2.result.now c.wide-2.result c.tokens.ensures c.wide.ensures.0 c.tokens-2.ensures c.wide-2.ensures.0 _ _ c.add_side-2.result (c.add_side-2.ensures _ (went_built a.symbols.now (facts a.toks a.a.now a.b.now) a.rep.now a.toks a.hyps _ _ _ c.add_side.result _ c.in-Went-add_side.is (c.add_side.ensures (node (facts a.toks a.a.now a.b.now) a.toks ∷ []) (went_built a.symbols.now (facts a.toks a.a.now a.b.now) a.rep.now a.toks a.hyps _ a.starts.now (node (facts a.toks a.a.now a.b.now) a.toks ∷ []) c.start.result _ c.in-Went.is (c.start.ensures a.hyps a.starts.now)))))
+    all_outcome a.symbols.now a.toks a.hyps a.at a.a.now a.b.now a.rep.now c.requires.0 c.tokens.result.now c.wide.result c.tokens-2.result.now c.wide-2.result c.tokens.ensures c.wide.ensures.0 c.tokens-2.ensures c.wide-2.ensures.0 _ _ c.add_side-2.result (c.add_side-2.ensures _ (c.in_ok-t.ensures (node (facts a.toks a.a.now a.b.now) a.toks ∷ []) (c.in_ok-s.ensures a.hyps a.starts.now)))

@@ -18,7 +18,7 @@ overflow_cast-set c = omega (arith, ones-le 32 c.args.set c.ranges.set.fits)
 pub returns-then-vars-set : goal.returns-then-vars-set
 returns-then-vars-set c =
     let a = c.args in
-    λ vs rest N. name_full vs a.names.now a.set a.vars a.x rest N c.if-names-x-ne0.false c.if-vars-set.true
+    λ vs rest N. name_full vs a.names.now a.set a.vars a.x rest N c.if-names-x-ne0.false _ c.if-vars-set.true
 
 -- src/lib.rt:171:1
 pub returns : goal.returns

@@ -1,11 +1,12 @@
 use mathlib.Core.Path.{refl, ◌∙◌, sym}
 use mathlib.Core.List.{[]}
-use Prim.Native.Nat.{◌+◌, ◌-◌}
+use Prim.Native.Nat.{◌+◌}
 use native.Mathlib.Omega.{arith}
 use lib.ListN.{take, drop, length-set}
 use Rattle.model.specs.Term.{distinct}
+use Rattle.std.proofs.lemmas.Result.{err_from_is_err_and}
 use Rattle.combine.specs.Codes.{code_vars}
-use Rattle.combine.specs.Numbers.{naming_start, tokens_start, naming_high, naming_low, as_low, as_high, tokens_next, named_is, named_full, numbered_end}
+use Rattle.combine.specs.Numbers.{naming_start, tokens_start, naming_high, naming_low, as_low, as_high, tokens_next, numbered_end}
 use Rattle.combine.proofs.number.Goals as goal
 
 -- src/lib.rt:193:5
@@ -38,18 +39,11 @@ name-requires c =
     (omega (arith, c.loop-i.invariant.1, c.wide16-c.ensures.0, c.requires.low c.loop-i.i c.loop-i-test.true), c.requires.few)
 
 -- src/lib.rt:202:13
-pub shape_of-names-in_default : goal.shape_of-names-in_default
-shape_of-names-in_default c = c.name.auto.names ∙ c.loop-i.invariant.1 ∙ sym c.requires.wide
-
--- src/lib.rt:202:13
-pub shape_of-rec-in_default : goal.shape_of-rec-in_default
-shape_of-rec-in_default c = c.loop-i.invariant.2
-
--- src/lib.rt:202:13
-pub returns-in_default : goal.returns-in_default
-returns-in_default c =
+pub returns-in_err-set : goal.returns-in_err-set
+returns-in_err-set c =
+    let p = err_from_is_err_and c.from_residual.result c.from_residual.ensures.1 in
     let a = c.args in
-    named_full (distinct [] (code_vars (take a.end a.o.now))) _ (c.wide16-c.result - 256) a.vars (code_vars (drop (c.loop-i.i + 1) (take a.end a.o.now))) c.name.result c.in_default.is (c.name.ensures (distinct [] (code_vars (take a.end a.o.now))) (code_vars (drop (c.loop-i.i + 1) (take a.end a.o.now))) (naming_high (distinct [] (code_vars (take a.end a.o.now))) a.o.now a.rec.now a.end c.loop-i.i c.requires.long c.requires.room c.loop-i-test.true c.loop-i.names c.loop-i.set a.vars c.wide16-c.result c.wide16-c.ensures.0 c.if-c-lt256.false c.loop-i.invariant.3))
+    rw p.1 (c.in_err-set.ensures (distinct [] (code_vars (take a.end a.o.now))) (code_vars (drop (c.loop-i.i + 1) (take a.end a.o.now))) (naming_high (distinct [] (code_vars (take a.end a.o.now))) a.o.now a.rec.now a.end c.loop-i.i c.requires.long c.requires.room c.loop-i-test.true c.loop-i.names c.loop-i.set a.vars c.wide16-c.result c.wide16-c.ensures.0 c.if-c-lt256.false c.loop-i.invariant.3))
 
 -- src/lib.rt:204:22
 pub bounds-names-x : goal.bounds-names-x
@@ -68,7 +62,7 @@ bounds-rec-i-in-loop-i c = omega (arith, c.requires.room, c.loop-i.invariant.2, 
 pub loop-i-preserved : goal.loop-i-preserved
 loop-i-preserved c =
     let a = c.args in
-    let w = named_is (distinct [] (code_vars (take a.end a.o.now))) _ (c.wide16-c.result - 256) a.vars (code_vars (drop (c.loop-i.i + 1) (take a.end a.o.now))) c.name.result _ c.in-Is.is (c.name.ensures (distinct [] (code_vars (take a.end a.o.now))) (code_vars (drop (c.loop-i.i + 1) (take a.end a.o.now))) (naming_high (distinct [] (code_vars (take a.end a.o.now))) a.o.now a.rec.now a.end c.loop-i.i c.requires.long c.requires.room c.loop-i-test.true c.loop-i.names c.loop-i.set a.vars c.wide16-c.result c.wide16-c.ensures.0 c.if-c-lt256.false c.loop-i.invariant.3)) in
+    let w = c.in_ok-set.ensures (distinct [] (code_vars (take a.end a.o.now))) (code_vars (drop (c.loop-i.i + 1) (take a.end a.o.now))) (naming_high (distinct [] (code_vars (take a.end a.o.now))) a.o.now a.rec.now a.end c.loop-i.i c.requires.long c.requires.room c.loop-i-test.true c.loop-i.names c.loop-i.set a.vars c.wide16-c.result c.wide16-c.ensures.0 c.if-c-lt256.false c.loop-i.invariant.3) in
     (omega (arith, c.loop-i-test.true), c.name.auto.names ∙ c.loop-i.invariant.1, length-set c.loop-i.rec (c.loop-i.i + 2) _ ∙ c.loop-i.invariant.2, w.0, tokens_next (distinct [] (code_vars (take a.end a.o.now))) a.o.now a.rec.now a.end c.loop-i.i c.requires.long c.requires.room c.loop-i-test.true c.loop-i.rec _ c.loop-i.invariant.4 (as_high (distinct [] (code_vars (take a.end a.o.now))) a.o.now a.rec.now a.end c.loop-i.i c.requires.long c.requires.room c.loop-i-test.true c.wide16-c.result _ c.wide16-c.ensures.0 c.if-c-lt256.false w.1))
 
 -- src/lib.rt:187:1

@@ -2,8 +2,9 @@
 use mathlib.Core.Path.{◌∙◌}
 use mathlib.Core.List.{[]}
 use native.Mathlib.Omega.{arith}
-use lib.ListN.{take, length-set}
-use Rattle.combine.specs.Settle.{blank_all, vars_over, text_written, numbered_no, numbered_yes}
+use lib.ListN.{length-set}
+use Rattle.std.proofs.lemmas.Result.{err_from_is_err_and}
+use Rattle.combine.specs.Settle.{blank_all, vars_over, text_written}
 use Rattle.combine.proofs.written.Goals as goal
 
 pub blank-requires : goal.blank-requires
@@ -16,18 +17,11 @@ number-requires c =
     record { long = omega (arith, c.requires.long, c.requires.space); room = omega (arith, c.requires.long, c.requires.room); low = c.requires.low; wide = c.blank.auto.s ∙ c.requires.wide; none = blank_all a.names.now _ c.requires.wide c.blank.ensures; few = c.requires.count }
 
 -- src/lib.rt:232:9
-pub shape_of-names-then-not-number : goal.shape_of-names-then-not-number
-shape_of-names-then-not-number c = c.number.auto.names ∙ c.blank.auto.s
-
--- src/lib.rt:232:9
-pub shape_of-rec-then-not-number : goal.shape_of-rec-then-not-number
-shape_of-rec-then-not-number c = c.number.auto.rec
-
--- src/lib.rt:232:9
-pub returns-then-not-number : goal.returns-then-not-number
-returns-then-not-number c =
+pub returns-in_err-number : goal.returns-in_err-number
+returns-in_err-number c =
+    let p = err_from_is_err_and c.from_residual.result c.from_residual.ensures.1 in
     let a = c.args in
-    λ sy ts srep hyps starts ns B. vars_over sy ts srep a.toks hyps a.vars a.o.now starts a.s.end a.s.count ns a.rec.now c.requires.long c.requires.room c.requires.space B [] (numbered_no (take a.s.end a.o.now) a.vars a.rec.now _ c.number.result c.if-not-number.true-raw c.number.ensures) _
+    rw p.1 (λ sy ts srep hyps starts ns B. vars_over sy ts srep a.toks hyps a.vars a.o.now starts a.s.end a.s.count ns a.rec.now c.requires.long c.requires.room c.requires.space B [] c.in_err-number.ensures _)
 
 -- src/lib.rt:234:16
 pub overflow_add-end : goal.overflow_add-end
@@ -70,4 +64,4 @@ shape_of-rec c = simp length-set (c.blank-2.auto.s ∙ c.number.auto.rec)
 pub returns : goal.returns
 returns c =
     let a = c.args in
-    λ sy ts srep hyps starts ns B. text_written sy ts srep a.toks hyps a.vars a.o.now starts a.s.end a.s.count ns a.rec.now c.requires.long c.requires.room c.requires.space B _ _ (numbered_yes (take a.s.end a.o.now) a.vars a.rec.now _ c.number.result c.if-not-number.false-raw c.number.ensures) c.blank-2.ensures
+    λ sy ts srep hyps starts ns B. text_written sy ts srep a.toks hyps a.vars a.o.now starts a.s.end a.s.count ns a.rec.now c.requires.long c.requires.room c.requires.space B _ _ c.in_ok-number.ensures c.blank-2.ensures
