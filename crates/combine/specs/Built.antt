@@ -1,11 +1,12 @@
 -- The text of the conclusion and the kept hypotheses as it grows fact by fact, and the laws that the code's proofs cite. Assumes nothing.
-use Rattle.std.specs.Prelude.{ℕ, zero, suc, ◌+◌, ◌*◌, ◌-◌, ◌≤◌, ◌<◌, Bool, ◌≡◌, refl, ◌⊎◌, take, get_or, set, Result, Ok, Err}
-use Rattle.std.proofs.Common.{arith, ◌∙◌, subst, inr, length-append, take_at, take-take, get_or-set_same, get_or-set_other}
+use Rattle.std.specs.Prelude.{ℕ, zero, suc, ◌+◌, ◌*◌, ◌-◌, ◌≤◌, ◌<◌, Bool, ◌≡◌, refl, ◌⊎◌, take, get_or, set, Result, Ok, Err, All}
+use Rattle.std.proofs.Common.{arith, ◌∙◌, subst, inr, length-append, length-take-le, get_or-take, take_at, take-take, get_or-set_same, get_or-set_other}
 use Rattle.std.proofs.Math.Bool.{true, false}
 use mathlib.Core.List.{List, [], ◌∷◌, ◌++◌, append_assoc, append-nil}
 use Rattle.std.proofs.Math.Path.{ap, sym}
 use Rattle.std.proofs.Math.Logic.{inl}
 use Rattle.std.proofs.Math.ListN.{length}
+use Rattle.std.proofs.lemmas.List.Elements.{All-from_get_or}
 use Rattle.model.specs.Term.{Term, con, ◌·◌, size}
 use Rattle.model.specs.Rule.{among, firsts, size_all}
 use Rattle.records.specs.Tokens.{applied}
@@ -103,12 +104,6 @@ pub record Ready (sy : List ℕ) (T hyps : ℕ) (a b s o starts : List ℕ) (st 
   pub space : length o ≡ 2 * T
   pub nodes : List ℕ
   pub built : Built sy (facts T a b) s T hyps o starts st.end st.count nodes
-
--- What looking for a copy needs.
-pub record Bounded (o starts : List ℕ) (count p n : ℕ) : Type 0 where
-  pub here : p + n ≤ length o
-  pub many : count ≤ length starts
-  pub before : (j : ℕ) → j < count → get_or starts j 0 ≤ p
 
 marks_le : (starts : List ℕ) (j p : ℕ) (K : List Term) → Marks starts j p K → (i : ℕ) → i < length K → get_or starts (j + i) 0 ≤ p + size_all K
 unfolding size_all
@@ -220,13 +215,14 @@ module _ (sy : List ℕ) (T hyps : ℕ) (a b s : List ℕ) (S : Site sy T a b s)
       all_text : take f o' ≡ codes B.concl ++ (codes_all (firsts [] B.done) ++ codes u)
       all_text = (x.fits g).1 ∙ ap (◌++ codes u) B.text ∙ (unfold codes_all in append_assoc (codes B.concl) (codes_all (firsts [] B.done)) (codes u))
 
-      pub copy_bounded : n ≤ length starts → length o' ≡ 2 * T → Bounded o' starts n e (f - e)
-      copy_bounded h d =
-          record {
-            here = omega (arith, B.long, size_is);
-            many = h;
-            before = λ k q. (let z : 0 + k ≡ k = omega arith in omega (arith, marks_le starts 0 (size B.concl) (firsts [] B.done) B.marks k (omega (arith, B.count)), ap (λ (m : ℕ). get_or starts m 0) z, B.end));
-          }
+      -- the instance stands within the text, and no start behind it
+      pub copy_here : length o' ≡ 2 * T → e + (f - e) ≤ length o'
+      copy_here d = omega (arith, B.long, size_is)
+
+      pub copy_before : n ≤ length starts → All (λ x. x ≤ e) (take n starts)
+      copy_before h =
+          All-from_get_or (λ x. x ≤ e) (take n starts) 0
+          (λ k q. (let z : 0 + k ≡ k = omega arith in let w : length (take n starts) ≡ n = length-take-le n starts h in omega (arith, get_or-take n starts k 0 (omega arith), marks_le starts 0 (size B.concl) (firsts [] B.done) B.marks k (omega (arith, B.count)), ap (λ (m : ℕ). get_or starts m 0) z, B.end)))
 
       test : (c : Bool) → Says (Copy o' starts n e (f - e)) c → among u (firsts [] B.done) ≡ c
       test c h =

@@ -1,11 +1,12 @@
 -- The text of a rule becomes a record: whether it fits, and the bytes. Assumes nothing.
 use Rattle.std.specs.Prelude.{ℕ, ◌+◌, ◌*◌, ◌-◌, ◌≤◌, ◌<◌, Bool, true, false, ◌≡◌, refl, ◌⊎◌, leb, get_or, Result}
 use native.Mathlib.Omega.{arith}
-use mathlib.Core.List.{List, [], ◌∷◌, ◌++◌, map, append_assoc, append-nil}
+use mathlib.Core.List.{List, [], ◌∷◌, ◌++◌, map, append_assoc}
 use Rattle.std.proofs.Math.Path.{ap, ap₂, sym, subst}
-use Rattle.std.proofs.Common.{◌∙◌, inl, inr, length-append, length-take, length-drop, take-append-drop, get_or-take, drop-drop, le-leb, leb-true, leb-false}
-use Rattle.std.proofs.Math.ListN.{length, take, drop, set, replicate, length-map, get_or-append, get_or-eq_default}
-use Rattle.std.proofs.lemmas.List.{length-replicate, get_or-replicate, replicate-append-replicate}
+use Rattle.std.proofs.Common.{◌∙◌, inl, inr, length-append, length-take, get_or-take, drop-drop, le-leb, leb-true, leb-false}
+use borrow.Rule.Slice.PartMut.{put_mid}
+use Rattle.std.proofs.Math.ListN.{length, take, drop, set, replicate, length-map, get_or-eq_default}
+use Rattle.std.proofs.lemmas.List.{length-replicate, get_or-replicate}
 use Rattle.std.proofs.Math.Seq.{take_at, length-take-le, drop-append-add}
 use Rattle.std.proofs.lemmas.Bool.{lt-leb}
 use Rattle.model.specs.Term.{Term, var, con, ◌·◌, sub, size, distinct, vars}
@@ -24,7 +25,7 @@ use Rattle.combine.specs.Codes.{code_vars, token, numbers, all_vars_lem, all_tok
 use Rattle.combine.specs.declared.TooLarge.{TooLarge}
 use Rattle.combine.specs.Built.{Site, Built, Over, Outcome, over_more}
 use Rattle.combine.specs.Places.{visits}
-use Rattle.combine.specs.Numbers.{Numbered, put_next}
+use Rattle.combine.specs.Numbers.{Numbered}
 
 -- What gathering the facts of two records needs.
 pub record Sheets (T hyps at : ℕ) (a b o starts : List ℕ) : Type 0 where
@@ -78,10 +79,9 @@ module _ (sy : List ℕ) (T hyps at : ℕ) (a b s : List ℕ) (S : Site sy T a b
       (ap₂ (λ (x y : List ℕ). node both T ∷ (x ++ y)) (side_same sy both 0 (T + at) a tk n e q) (side_same sy both T (T + at) b uk m f p)) h
 
 -- What numbering a text needs: no variable has a name yet.
-pub record Numberable (o : List ℕ) (end vars : ℕ) (names rec : List ℕ) : Type 0 where
-  pub long : end ≤ length o
-  pub room : end + 2 ≤ length rec
-  pub low : (i : ℕ) → i < end → get_or o i 0 < 384
+pub record Numberable (text : List ℕ) (vars : ℕ) (names rec : List ℕ) : Type 0 where
+  pub room : length text + 2 ≤ length rec
+  pub low : (i : ℕ) → i < length text → get_or text i 0 < 384
   pub wide : length names ≡ 128
   pub none : (x : ℕ) → get_or names x 0 ≡ 0
   pub few : vars ≤ 32
@@ -90,33 +90,21 @@ pub record Numberable (o : List ℕ) (end vars : ℕ) (names rec : List ℕ) : T
 unfoldable pub blanked : ℕ → ℕ → List ℕ → List ℕ
 blanked from to s = (take from s ++ replicate (to - from) 0) ++ drop to s
 
-pub blank_start : (from : ℕ) (s : List ℕ) → s ≡ blanked from from s
+-- after a write of zeros at that part
+pub blanked_part : (from to : ℕ) (s : List ℕ) → from ≤ to → put_mid from (to - from) s (replicate (to - from) 0) ≡ blanked from to s
 unfolding blanked
-blank_start from s =
-    let z : from - from ≡ 0 = omega arith in
-    sym (ap (λ (n : ℕ). (take from s ++ replicate n 0) ++ drop from s) z ∙ ap (◌++ drop from s) (append-nil (take from s)) ∙ take-append-drop from s)
-
-blank_length : (from to : ℕ) (s : List ℕ) → from ≤ to → to ≤ length s → length (take from s ++ replicate (to - from) 0) ≡ to
-blank_length from to s l k = length-append (take from s) (replicate (to - from) 0) ∙ omega (arith, length-take-le from s (omega arith), length-replicate {A = ℕ} (to - from) 0)
-
-pub blank_next : (from i : ℕ) (s old : List ℕ) → from ≤ i → i < length old → s ≡ blanked from i old → set s i 0 ≡ blanked from (i + 1) old
-unfolding blanked
-blank_next from i s old l k e =
-    let z : i - from + 1 ≡ i + 1 - from = omega arith in
-    ap (λ (x : List ℕ). set x i 0) e
-    ∙ put_next (take from old ++ replicate (i - from) 0) old i 0 (blank_length from i old l (omega arith)) k
-    ∙ ap (◌++ drop (i + 1) old) (append_assoc (take from old) (replicate (i - from) 0) (0 ∷ []) ∙ ap (take from old ++◌) (replicate-append-replicate (i - from) 1 0 ∙ ap (λ (n : ℕ). replicate n 0) z))
+blanked_part from to s l =
+    let z : from + (to - from) ≡ to = omega arith in
+    ap (λ (x : List ℕ). take from s ++ (replicate (to - from) 0 ++ x)) (drop-drop (to - from) from s ∙ ap (λ (n : ℕ). drop n s) z)
+    ∙ sym (append_assoc (take from s) (replicate (to - from) 0) (drop to s))
 
 -- a table of zeros
-pub blank_all : (s t : List ℕ) → length s ≡ 128 → t ≡ blanked 0 128 s → (x : ℕ) → get_or t x 0 ≡ 0
-unfolding blanked
-blank_all s t l e x = ap (λ (u : List ℕ). get_or u x 0) e ∙ go (leb 128 x) refl
+pub zeros_all : (n x : ℕ) → ◌≡◌ {A = ℕ} (get_or (replicate n 0) x 0) 0
+zeros_all n x = go (leb n x) refl
   where
-    go : (c : Bool) → leb 128 x ≡ c → get_or (replicate (128 - 0) 0 ++ drop 128 s) x 0 ≡ 0
-    go true h = get_or-eq_default (replicate (128 - 0) 0 ++ drop 128 s) 0 {n = x} (omega (arith, leb-true 128 x h, length-append (replicate {A = ℕ} (128 - 0) 0) (drop 128 s), length-replicate {A = ℕ} (128 - 0) 0, length-drop 128 s))
-    go false h =
-        let z = leb-false 128 x h in
-        get_or-append (replicate (128 - 0) 0) (drop 128 s) 0 x (omega (arith, length-replicate {A = ℕ} (128 - 0) 0)) ∙ get_or-replicate (128 - 0) x 0 0 (omega arith)
+    go : (c : Bool) → leb n x ≡ c → ◌≡◌ {A = ℕ} (get_or (replicate n 0) x 0) 0
+    go true h = get_or-eq_default (replicate n 0) 0 {n = x} (omega (arith, leb-true n x h, length-replicate {A = ℕ} n 0))
+    go false h = get_or-replicate n x 0 0 (omega (arith, leb-false n x h))
 
 -- ---- fitting
 abbrev pub limits : ℕ → ℕ → ℕ → Limits

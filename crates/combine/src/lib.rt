@@ -1,6 +1,6 @@
 #![tactic(auto)]
 
-ghost use Rattle.std.specs.Prelude.{◌≡◌, List, [], ◌∷◌, ◌++◌, ℕ, ◌+◌, ◌-◌, ◌*◌, ◌≤◌, ◌<◌, length, take, drop, set, is_ok};
+ghost use Rattle.std.specs.Prelude.{◌≡◌, List, [], ◌∷◌, ◌++◌, ℕ, ◌+◌, ◌-◌, ◌*◌, ◌≤◌, ◌<◌, length, take, drop, is_ok, All, slice_range};
 ghost use Rattle.std.specs.Int.Count.{count_trailing_zeros};
 ghost use Rattle.model.specs.Term.{Term};
 ghost use Rattle.model.specs.Rule.{Rule};
@@ -8,11 +8,11 @@ ghost use Rattle.records.specs.Tokens.{span as span_of};
 ghost use Rattle.records.specs.Symbols.{arity_of};
 ghost use Rattle.unify.specs.Nodes.{node};
 ghost use Rattle.unify.specs.Facts.{facts};
-ghost use Rattle.combine.specs.Copies.{Says, Copy};
-ghost use Rattle.combine.specs.Built.{Site, Bounded, Built, Ready, Outcome};
+ghost use Rattle.combine.specs.Copies.{has_copy};
+ghost use Rattle.combine.specs.Built.{Site, Built, Ready, Outcome};
 ghost use Rattle.combine.specs.Places.{visits};
 ghost use Rattle.combine.specs.Numbers.{Naming, Named, Numbered};
-ghost use Rattle.combine.specs.Settle.{Sheets, all_nodes, Numberable, blanked, Writable, Settled};
+ghost use Rattle.combine.specs.Settle.{Sheets, all_nodes, Numberable, Writable, Settled};
 ghost use Rattle.combine.specs.Final.{Combinable, Combines, CombinationIs};
 
 use records::parts::wide;
@@ -31,47 +31,16 @@ pub struct State {
 #[derive(Clone, Copy, Debug, PartialEq, Eq)]
 pub struct TooLarge;
 
-fn wide16(x: u16) -> usize
-    ensures { (result ≡ x) × (result < 65536) }
+// Do the n codes at p stand at one of these starts, too?
+fn is_copy(text: &[u16], starts: &[u16], p: usize, n: usize) -> bool
+    requires here { p + n ≤ length text.now }
+    requires before { All (λ s. s ≤ p) starts.now }
+    ensures { result ≡ has_copy text.now starts.now p n }
 {
-    x as usize
-}
-
-fn put(s: &mut [u16], i: usize, v: usize)
-    requires { (i < length s.old) × (v < 65536) }
-    ensures { s.new ≡ set s.old i v }
-{
-    s[i] = v as u16;
-}
-
-// Are the n codes at two places the same?
-fn same_codes(o: &[u16], p: usize, q: usize, n: usize) -> bool
-    requires { (p + n ≤ length o.now) × (q + n ≤ length o.now) }
-    ensures { Says (take n (drop p o.now) ≡ take n (drop q o.now)) result }
-{
-    let mut i: usize = 0;
-    while i < n {
-        if o[p + i] != o[q + i] {
-            return false;
-        }
-        i += 1;
-    }
-    true
-}
-
-// Do the n codes at p stand at one of the first `count` starts, too?
-fn is_copy(o: &[u16], starts: &[u16], count: usize, p: usize, n: usize) -> bool
-    requires { Bounded o.now starts.now count p n }
-    ensures { Says (Copy o.now starts.now count p n) result }
-{
-    let mut j: usize = 0;
-    while j < count {
-        if same_codes(o, wide16(starts[j]), p, n) {
-            return true;
-        }
-        j += 1;
-    }
-    false
+    starts.iter().any(|&s| {
+        let from = usize::from(s);
+        text[from..from + n] == text[p..p + n]
+    })
 }
 
 // Begins the text with the instance of the fact at a place: the conclusion.
@@ -137,7 +106,7 @@ fn add(
     if cap < e {
         return Err(TooLarge);
     }
-    if is_copy(o, starts, count, end, e - end) {
+    if is_copy(o, &starts[..count], end, e - end) {
         return Ok(s);
     }
     if toks < e {
@@ -146,7 +115,7 @@ fn add(
     if hyps <= count {
         return Err(TooLarge);
     }
-    put(starts, count, end);
+    starts[count] = end as u16;
     Ok(State {
         end: e,
         count: count + 1,
@@ -240,7 +209,7 @@ fn gathered(
 fn next(set: u32) -> u8
     ensures { result ≡ count_trailing_zeros 32 (4294967295 - set) + 1 }
 {
-    (u32::trailing_zeros(!set) + 1) as u8
+    (!set).trailing_zeros() as u8 + 1
 }
 
 // Gives the variable x the next number, unless it has one or all are given.
@@ -251,7 +220,7 @@ fn name(names: &mut [u8], x: usize, set: u32, vars: usize) -> Result<u32, TooLar
     if names[x] != 0 {
         return Ok(set);
     }
-    if vars <= u32::count_ones(set) as usize {
+    if vars <= set.count_ones() as usize {
         return Err(TooLarge);
     }
     let v = next(set);
@@ -260,46 +229,25 @@ fn name(names: &mut [u8], x: usize, set: u32, vars: usize) -> Result<u32, TooLar
 }
 
 // Writes the tokens of a text behind the counts, its variables numbered by first appearance; none where there are more than `vars`.
-fn number(
-    o: &[u16],
-    end: usize,
-    vars: usize,
-    names: &mut [u8],
-    rec: &mut [u8],
-) -> Result<(), TooLarge>
-    requires { Numberable o.now end vars names.old rec.old }
-    ensures { Numbered (take end o.now) vars rec.old rec.new (is_ok result) }
+fn number(text: &[u16], vars: usize, names: &mut [u8], rec: &mut [u8]) -> Result<(), TooLarge>
+    requires { Numberable text.now vars names.old rec.old }
+    ensures { Numbered text.now vars rec.old rec.new (is_ok result) }
 {
     let mut set: u32 = 0;
-    let mut i: usize = 0;
-    while i < end {
-        let c = wide16(o[i]);
-        if c < 256 {
-            rec[i + 2] = c as u8;
-            i += 1;
+    for (i, &code) in text.iter().enumerate() {
+        let code = usize::from(code);
+        if code < 256 {
+            rec[i + 2] = code as u8;
             continue;
         }
-        let x = c - 256;
+        let x = code - 256;
         set = name(names, x, set, vars)?;
         rec[i + 2] = names[x];
-        i += 1;
     }
     Ok(())
 }
 
-// Zeros from one place up to another.
-fn blank(s: &mut [u8], from: usize, to: usize)
-    requires { (from ≤ to) × (to ≤ length s.old) }
-    ensures { s.new ≡ blanked from to s.old }
-{
-    let mut i = from;
-    while i < to {
-        s[i] = 0;
-        i += 1;
-    }
-}
-
-// Writes the rule that a text holds; false where it has more than `vars` variables.
+// Writes the rule that a text holds, unless it has more than `vars` variables.
 fn written(
     o: &[u16],
     s: State,
@@ -312,11 +260,10 @@ fn written(
     ensures { (sy ts srep : List ℕ) (hyps : ℕ) (starts ns : List ℕ) → Built sy ts srep toks hyps o.now starts s.end s.count ns → Settled sy ts srep toks hyps vars rec.old rec.new ns (is_ok result) }
 {
     let end = s.end;
-    let count = s.count;
-    blank(names, 0, 128);
-    number(o, end, vars, names, rec)?;
-    blank(rec, end + 2, toks + 2);
-    rec[0] = count as u8;
+    names.fill(0);
+    number(&o[..end], vars, names, rec)?;
+    rec[end + 2..toks + 2].fill(0);
+    rec[0] = s.count as u8;
     rec[1] = end as u8;
     Ok(())
 }

@@ -1,8 +1,9 @@
 -- src/lib.rt:87:15
-use mathlib.Core.Path.{◌∙◌}
-use Prim.Native.Nat.{◌+◌}
+use mathlib.Core.Path.{refl, ◌∙◌}
+use Prim.Native.Nat.{◌+◌, ◌-◌}
 use native.Mathlib.Omega.{arith}
-use Rattle.combine.specs.Built.{site_asks, add_long, add_grows, copy_bounded, add_copy, add_large, add_many, add_kept}
+use Rattle.combine.specs.Built.{site_asks, add_long, add_grows, copy_here, copy_before, add_copy, add_large, add_many, add_kept}
+use Rattle.combine.proofs.Laws.{has_copy_says}
 use Rattle.combine.proofs.add.Goals as goal
 
 pub overflow_add-cap : goal.overflow_add-cap
@@ -30,37 +31,36 @@ overflow_sub-e c =
     let a = c.args in
     add_grows a.symbols.now a.toks a.hyps a.a.now a.b.now a.rep.now c.requires.0.site a.o.now _ a.starts.now a.s.end a.s.count _ c.node_at.result c.write-e.result c.node_at.ensures.0 c.node_at.ensures.1 c.write-e.ensures c.requires.0.nodes c.requires.0.built c.if-cap-e.false
 
--- src/lib.rt:92:8
-pub is_copy-requires : goal.is_copy-requires
-is_copy-requires c =
+pub is_copy-requires-clause-here : goal.is_copy-requires-clause-here
+is_copy-requires-clause-here c =
     let a = c.args in
-    copy_bounded a.symbols.now a.toks a.hyps a.a.now a.b.now a.rep.now c.requires.0.site a.o.now _ a.starts.now a.s.end a.s.count _ c.node_at.result c.write-e.result c.node_at.ensures.0 c.node_at.ensures.1 c.write-e.ensures c.requires.0.nodes c.requires.0.built c.if-cap-e.false (omega (arith, c.requires.0.built.few, c.requires.0.room)) (c.write-e.auto.o ∙ c.requires.0.space)
+    copy_here a.symbols.now a.toks a.hyps a.a.now a.b.now a.rep.now c.requires.0.site a.o.now _ a.starts.now a.s.end a.s.count _ c.node_at.result c.write-e.result c.node_at.ensures.0 c.node_at.ensures.1 c.write-e.ensures c.requires.0.nodes c.requires.0.built c.if-cap-e.false (c.write-e.auto.o ∙ c.requires.0.space)
+
+pub is_copy-requires-clause-before : goal.is_copy-requires-clause-before
+is_copy-requires-clause-before c =
+    let a = c.args in
+    copy_before a.symbols.now a.toks a.hyps a.a.now a.b.now a.rep.now c.requires.0.site a.o.now _ a.starts.now a.s.end a.s.count _ c.node_at.result c.write-e.result c.node_at.ensures.0 c.node_at.ensures.1 c.write-e.ensures c.requires.0.nodes c.requires.0.built c.if-cap-e.false (omega (arith, c.requires.0.built.few, c.requires.0.room))
 
 -- src/lib.rt:93:9
 pub returns-then-is_copy : goal.returns-then-is_copy
 returns-then-is_copy c =
     let a = c.args in
-    λ ns B. add_copy a.symbols.now a.toks a.hyps a.a.now a.b.now a.rep.now c.requires.0.site a.o.now _ a.starts.now a.s.end a.s.count _ c.node_at.result c.write-e.result c.node_at.ensures.0 c.node_at.ensures.1 c.write-e.ensures ns B c.if-cap-e.false c.is_copy.result c.if-is_copy.true c.is_copy.ensures
+    λ ns B. add_copy a.symbols.now a.toks a.hyps a.a.now a.b.now a.rep.now c.requires.0.site a.o.now _ a.starts.now a.s.end a.s.count _ c.node_at.result c.write-e.result c.node_at.ensures.0 c.node_at.ensures.1 c.write-e.ensures ns B c.if-cap-e.false c.is_copy.result c.if-is_copy.true (has_copy_says _ a.starts.now a.s.count a.s.end (c.write-e.result - a.s.end) (omega (arith, c.requires.0.built.few, c.requires.0.room)) c.is_copy.result c.is_copy.ensures)
 
 -- src/lib.rt:96:9
 pub returns-then-toks-e : goal.returns-then-toks-e
 returns-then-toks-e c =
     let a = c.args in
-    λ ns B. add_large a.symbols.now a.toks a.hyps a.a.now a.b.now a.rep.now c.requires.0.site a.o.now _ a.starts.now a.s.end a.s.count _ c.node_at.result c.write-e.result c.node_at.ensures.0 c.node_at.ensures.1 c.write-e.ensures ns B c.if-cap-e.false c.is_copy.result c.if-is_copy.false c.is_copy.ensures c.if-toks-e.true
+    λ ns B. add_large a.symbols.now a.toks a.hyps a.a.now a.b.now a.rep.now c.requires.0.site a.o.now _ a.starts.now a.s.end a.s.count _ c.node_at.result c.write-e.result c.node_at.ensures.0 c.node_at.ensures.1 c.write-e.ensures ns B c.if-cap-e.false c.is_copy.result c.if-is_copy.false (has_copy_says _ a.starts.now a.s.count a.s.end (c.write-e.result - a.s.end) (omega (arith, c.requires.0.built.few, c.requires.0.room)) c.is_copy.result c.is_copy.ensures) c.if-toks-e.true
 
 -- src/lib.rt:99:9
 pub returns-then-hyps-count : goal.returns-then-hyps-count
 returns-then-hyps-count c =
     let a = c.args in
-    λ ns B. add_many a.symbols.now a.toks a.hyps a.a.now a.b.now a.rep.now c.requires.0.site a.o.now _ a.starts.now a.s.end a.s.count _ c.node_at.result c.write-e.result c.node_at.ensures.0 c.node_at.ensures.1 c.write-e.ensures ns B c.if-cap-e.false c.is_copy.result c.if-is_copy.false c.is_copy.ensures c.if-hyps-count.true
-
--- src/lib.rt:101:5
-pub put-requires : goal.put-requires
-put-requires c =
-    (omega (arith, c.if-hyps-count.false, c.requires.0.room), omega (arith, c.requires.0.built.long, c.requires.0.site.given.small))
+    λ ns B. add_many a.symbols.now a.toks a.hyps a.a.now a.b.now a.rep.now c.requires.0.site a.o.now _ a.starts.now a.s.end a.s.count _ c.node_at.result c.write-e.result c.node_at.ensures.0 c.node_at.ensures.1 c.write-e.ensures ns B c.if-cap-e.false c.is_copy.result c.if-is_copy.false (has_copy_says _ a.starts.now a.s.count a.s.end (c.write-e.result - a.s.end) (omega (arith, c.requires.0.built.few, c.requires.0.room)) c.is_copy.result c.is_copy.ensures) c.if-hyps-count.true
 
 -- src/lib.rt:81:1
 pub returns : goal.returns
 returns c =
     let a = c.args in
-    λ ns B. add_kept a.symbols.now a.toks a.hyps a.a.now a.b.now a.rep.now c.requires.0.site a.o.now _ a.starts.now a.s.end a.s.count _ c.node_at.result c.write-e.result c.node_at.ensures.0 c.node_at.ensures.1 c.write-e.ensures ns B c.if-cap-e.false c.is_copy.result c.if-is_copy.false c.is_copy.ensures c.if-toks-e.false c.if-hyps-count.false c.requires.0.room _ c.put.ensures
+    λ ns B. add_kept a.symbols.now a.toks a.hyps a.a.now a.b.now a.rep.now c.requires.0.site a.o.now _ a.starts.now a.s.end a.s.count _ c.node_at.result c.write-e.result c.node_at.ensures.0 c.node_at.ensures.1 c.write-e.ensures ns B c.if-cap-e.false c.is_copy.result c.if-is_copy.false (has_copy_says _ a.starts.now a.s.count a.s.end (c.write-e.result - a.s.end) (omega (arith, c.requires.0.built.few, c.requires.0.room)) c.is_copy.result c.is_copy.ensures) c.if-toks-e.false c.if-hyps-count.false c.requires.0.room _ refl

@@ -1,67 +1,38 @@
--- src/lib.rt:230:5
-use mathlib.Core.Path.{◌∙◌}
-use mathlib.Core.List.{[]}
-use native.Mathlib.Omega.{arith}
-use lib.ListN.{length-set}
+use Rattle.std.proofs.Common.{ℕ, ◌+◌, ◌-◌, ◌<◌, ◌≡◌, [], length, take, drop, get_or, replicate, ap, subst, ◌∙◌, sym, arith, get_or-take, length-take-le, length-drop}
 use Rattle.std.proofs.lemmas.Result.{err_from_is_err_and}
-use Rattle.combine.specs.Settle.{blank_all, vars_over, text_written}
+use borrow.Rule.Slice.PartMut.{put_mid}
+use Rattle.combine.specs.Settle.{blanked_part, zeros_all, vars_over, text_written}
 use Rattle.combine.proofs.written.Goals as goal
 
-pub blank-requires : goal.blank-requires
-blank-requires c = (omega arith, omega (arith, c.requires.wide))
-
--- src/lib.rt:231:9
 pub number-requires : goal.number-requires
 number-requires c =
     let a = c.args in
-    record { long = omega (arith, c.requires.long, c.requires.space); room = omega (arith, c.requires.long, c.requires.room); low = c.requires.low; wide = c.blank.auto.s ∙ c.requires.wide; none = blank_all a.names.now _ c.requires.wide c.blank.ensures; few = c.requires.count }
+    let n : length (take a.s.end a.o.now) ≡ a.s.end = length-take-le a.s.end a.o.now (omega (arith, c.requires.long, c.requires.space)) in
+    let z = c.fill.ensures.after (λ y h. h) in
+    record {
+      room = omega (arith, c.requires.long, c.requires.room);
+      low = λ i l. subst (λ (x : ℕ). x < 384) (sym (get_or-take a.s.end a.o.now i 0 (omega arith))) (c.requires.low i (omega arith));
+      wide = c.fill.ensures.len ∙ c.requires.wide;
+      none = λ x. ap (λ l. get_or l x 0) z ∙ zeros_all (length a.names.now) x;
+      few = c.requires.count;
+    }
 
--- src/lib.rt:232:9
 pub returns-in_err-number : goal.returns-in_err-number
 returns-in_err-number c =
     let p = err_from_is_err_and c.from_residual.result c.from_residual.ensures.1 in
     let a = c.args in
-    rw p.1 (λ sy ts srep hyps starts ns B. vars_over sy ts srep a.toks hyps a.vars a.o.now starts a.s.end a.s.count ns a.rec.now c.requires.long c.requires.room c.requires.space B [] c.in_err-number.ensures _)
+    rw p.1
+    (λ sy ts srep hyps starts ns B. vars_over sy ts srep a.toks hyps a.vars a.o.now starts a.s.end a.s.count ns a.rec.now c.requires.long c.requires.room c.requires.space B [] c.in_err-number.ensures _)
 
--- src/lib.rt:234:16
-pub overflow_add-end : goal.overflow_add-end
-overflow_add-end c = omega (arith, c.requires.long, c.requires.small)
-
--- src/lib.rt:234:25
-pub overflow_add-toks : goal.overflow_add-toks
-overflow_add-toks c = omega (arith, c.requires.small)
-
--- src/lib.rt:234:5
-pub blank-requires-2 : goal.blank-requires-2
-blank-requires-2 c = (omega (arith, c.requires.long), omega (arith, c.number.auto.rec, c.requires.room))
-
--- src/lib.rt:235:14
-pub overflow_cast-rec : goal.overflow_cast-rec
-overflow_cast-rec c = omega (arith, c.requires.few)
-
--- src/lib.rt:235:5
-pub bounds-rec-0 : goal.bounds-rec-0
-bounds-rec-0 c = omega (arith, c.blank-2.auto.s, c.number.auto.rec, c.requires.room)
-
--- src/lib.rt:236:14
-pub overflow_cast-rec-2 : goal.overflow_cast-rec-2
-overflow_cast-rec-2 c = omega (arith, c.requires.long, c.requires.small)
-
--- src/lib.rt:236:5
-pub bounds-rec-1 : goal.bounds-rec-1
-bounds-rec-1 c =
-    simp length-set (omega (arith, c.blank-2.auto.s, c.number.auto.rec, c.requires.room))
-
--- src/lib.rt:224:1
-pub shape_of-names : goal.shape_of-names
-shape_of-names c = c.number.auto.names ∙ c.blank.auto.s
-
--- src/lib.rt:224:1
-pub shape_of-rec : goal.shape_of-rec
-shape_of-rec c = simp length-set (c.blank-2.auto.s ∙ c.number.auto.rec)
-
--- src/lib.rt:224:1
 pub returns : goal.returns
 returns c =
     let a = c.args in
-    λ sy ts srep hyps starts ns B. text_written sy ts srep a.toks hyps a.vars a.o.now starts a.s.end a.s.count ns a.rec.now c.requires.long c.requires.room c.requires.space B _ _ c.in_ok-number.ensures c.blank-2.ensures
+    let e = a.s.end in
+    let k = a.toks + 2 - (e + 2) in
+    let r = c.number.new.rec in
+    let n : length (take k (drop (e + 2) r)) ≡ k = length-take-le k (drop (e + 2) r) (omega (arith, length-drop (e + 2) r, c.number.auto.rec, c.requires.room)) in
+    let f : c.fill-2.new.self ≡ replicate k 0 = c.fill-2.ensures.after (λ y h. h) ∙ ap (λ m. replicate m 0) n in
+    λ sy ts srep hyps starts ns B.
+    text_written sy ts srep a.toks hyps a.vars a.o.now starts e a.s.count ns a.rec.now c.requires.long c.requires.room c.requires.space B r
+    (put_mid (e + 2) k r c.fill-2.new.self) c.in_ok-number.ensures
+    (ap (put_mid (e + 2) k r) f ∙ blanked_part (e + 2) (a.toks + 2) r (omega (arith, c.requires.long)))
