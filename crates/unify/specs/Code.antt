@@ -1,5 +1,5 @@
 -- The laws that the proofs of `merge` and of the small functions cite. Assumes nothing.
-use Rattle.std.specs.Prelude.{ℕ, zero, suc, ◌+◌, ◌*◌, ◌-◌, ◌≤◌, ◌<◌, min, max, Bool, true, false, not, List, [], ◌∷◌, map, ◌≡◌, ◌⊎◌, ◌≢◌, leb, length, get_or, set, drop}
+use Rattle.std.specs.Prelude.{ℕ, zero, suc, ◌+◌, ◌*◌, ◌-◌, ◌≤◌, ◌<◌, min, max, Bool, true, false, List, [], ◌∷◌, map, ◌≡◌, ◌⊎◌, ◌≢◌, leb, length, get_or, set, drop}
 use Rattle.std.proofs.Common.{arith, ap, ◌∙◌, subst, subst₂, sym, inl, inr, drop-drop, leb-true, leb-false, lt-ltb, le-ltb}
 use Rattle.std.proofs.Math.Path.{refl}
 use Rattle.std.proofs.Math.Seq.{drop-nil}
@@ -244,10 +244,10 @@ module _ (sy ts : List ℕ) where
       subst₂ (λ (us vs : List ℕ). Part (graph sy ts) s t (args_at sy ts (suc lo) (arity_of sy (tok ts lo))) (args_at sy ts (suc hi) (arity_of sy (tok ts hi))) us vs)
       (ap (args_at sy ts p) z ∙ no_args p) (ap (args_at sy ts q) z ∙ no_args q) P
 
-pub answer_no : (G : Graph) (r s w : List ℕ) (i j : ℕ) (b : Bool) → not b ≡ true → Answer G r s i j b → Answer G r w i j false
+pub answer_no : (G : Graph) (r s w : List ℕ) (i j : ℕ) (b : Bool) → b ≡ false → Answer G r s i j b → Answer G r w i j false
 answer_no G r s w i j true e h = let z : ◌≡◌ {A = ℕ} 0 1 = cc in absurd (omega arith)
 answer_no G r s w i j false e h = h
 
-pub answer_yes : (G : Graph) (r s : List ℕ) (i j : ℕ) (b : Bool) → not b ≡ false → Answer G r s i j b → Answer G r s i j true
+pub answer_yes : (G : Graph) (r s : List ℕ) (i j : ℕ) (b : Bool) → b ≡ true → Answer G r s i j b → Answer G r s i j true
 answer_yes G r s i j true e h = h
 answer_yes G r s i j false e h = let z : ◌≡◌ {A = ℕ} 0 1 = cc in absurd (omega arith)

@@ -1,5 +1,5 @@
 -- The code's answer is the model's combination, and what it writes are instances. Assumes nothing.
-use Rattle.std.specs.Prelude.{ℕ, ◌+◌, ◌*◌, ◌≤◌, ◌<◌, Bool, true, false, List, ◌++◌, ◌≡◌, refl, leb, length, take, drop}
+use Rattle.std.specs.Prelude.{ℕ, ◌+◌, ◌*◌, ◌≤◌, ◌<◌, Bool, true, false, List, ◌++◌, ◌≡◌, refl, leb, length, take, drop, Some, None}
 use Rattle.std.proofs.Common.{arith, ap, ◌∙◌, subst, sym, leb-true, leb-false}
 use Rattle.std.proofs.Math.Option.{Option, none, some}
 use Rattle.model.specs.Term.{Term, var, sub, size, unify, apply, Bindings}
@@ -12,7 +12,6 @@ use Rattle.theory.specs.Unique.{parts, combine_any}
 use Rattle.records.specs.Symbols.{arity_of}
 use Rattle.records.specs.Tokens.{leaves}
 use Rattle.records.specs.TokenLaws.{EachVar, Small, Agrees}
-use Rattle.unify.specs.declared.Unified.TheVariants.{Yes, No}
 use Rattle.unify.specs.Solve.{Solved}
 use Rattle.unify.specs.Nodes.{graph, node, node_in, ren, tree_leaves}
 use Rattle.unify.specs.Facts.{tokens_in, facts, Given, facts_length, Stands, stands_left, stands_right}
@@ -50,13 +49,13 @@ module _ (sy ts s : List ℕ) (S : Signature) (A : Agrees (arity_of sy) S) (r r'
     unfolding right sub_rule
     hyp = nth_map (sub (λ x. var (2 * x + 1))) r'.hyps k h is
 
-    -- No: there is no combination.
-    pub no_combination : Answers (graph sy ts) (node ts p) (node ts q) s at No → combine r r' k ≡ none
+    -- None: there is no combination.
+    pub no_combination : Answers (graph sy ts) (node ts p) (node ts q) s at None → combine r r' k ≡ none
     no_combination f = combine_none r r' k (ren 1 h) hyp (λ θ e. f θ (ap (sub θ) on_left ∙ e ∙ ap (sub θ) (sym on_right)))
 
-    -- Yes: the combination, by the substitution that the classes stand for.
+    -- Some: the combination, by the substitution that the classes stand for.
     pub the_combination :
-        (x : ℕ) (w : Answers (graph sy ts) (node ts p) (node ts q) s at (Yes x)) → combine r r' k ≡ some (normal (sub_rule w.1.μ (parts r r' k)))
+        (x : ℕ) (w : Answers (graph sy ts) (node ts p) (node ts q) s at (Some x)) → combine r r' k ≡ some (normal (sub_rule w.1.μ (parts r r' k)))
     the_combination x w = combine_any r r' k (ren 1 h) w.1.μ hyp (rw on_left at (rw on_right at w.1.mgu))
 
 -- The same, where the records are a and b: r's tokens begin with its conclusion, and the hypothesis stands at the place `at` of those of r'.
@@ -64,11 +63,11 @@ module _ (sy : List ℕ) (T : ℕ) (a b s : List ℕ) (G : Given T a b) (S : Sig
     (fp : is_fact S r.concl ≡ true) (lp : EachVar Small r.concl) (u : List ℕ) (P : tokens_in T a ≡ leaves r.concl u)
     (fq : is_fact S h ≡ true) (lq : EachVar Small h) (v : List ℕ) (Q : drop at (tokens_in T b) ≡ leaves h v)
   where
-    pub unify_no : Unifies sy T a b at s No → combine r r' k ≡ none
+    pub unify_no : Unifies sy T a b at s None → combine r r' k ≡ none
     unify_no f =
         no_combination sy (facts T a b) s S A r r' k 0 (T + at) at h is fp lp (stands_left T a b G 0 r.concl u P) fq lq (stands_right T a b G at h v Q) f
 
-    pub unify_yes : (x : ℕ) (w : Unifies sy T a b at s (Yes x)) → combine r r' k ≡ some (normal (sub_rule w.1.μ (parts r r' k)))
+    pub unify_yes : (x : ℕ) (w : Unifies sy T a b at s (Some x)) → combine r r' k ≡ some (normal (sub_rule w.1.μ (parts r r' k)))
     unify_yes x w =
         the_combination sy (facts T a b) s S A r r' k 0 (T + at) at h is fp lp (stands_left T a b G 0 r.concl u P) fq lq (stands_right T a b G at h v Q) x w
 
@@ -111,7 +110,7 @@ module _ (sy ts s : List ℕ) (S : Signature) (A : Agrees (arity_of sy) S) (p q 
       Stands ts 1 x t → (cap : ℕ) (o v : List ℕ) (i e : ℕ) → Writes (graph sy ts) s (node ts x) cap o v i e → Written cap o v i e (sub w.μ (sub (λ y. var (2 * y + 1)) t))
   instance_right P = instance 1 P (ren 1 t) refl
 
--- After Yes the writer can be asked for the node n of any place x.
+-- After Some the writer can be asked for the node n of any place x.
 pub may_write :
     (sy : List ℕ) (T : ℕ) (a b s o : List ℕ) (p q cap i x n : ℕ) → Given T a b → Solved (graph sy (facts T a b)) p q s
     → cap ≤ length o → i ≤ cap → x ≤ 2 * T → n ≡ node (facts T a b) x → Asked sy T (facts T a b) s cap o i n

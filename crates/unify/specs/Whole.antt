@@ -1,13 +1,11 @@
 -- What the code's `finite` and `unify` answer, and the laws that their proofs cite. Assumes nothing.
-use Rattle.std.specs.Prelude.{ℕ, suc, ◌+◌, ◌*◌, ◌-◌, ◌≤◌, ◌<◌, Bool, true, false, not, List, ◌∷◌, map, ◌≡◌, refl, ◌≢◌, eqb, leb, length, get_or, set, drop}
+use Rattle.std.specs.Prelude.{ℕ, suc, ◌+◌, ◌*◌, ◌-◌, ◌≤◌, ◌<◌, Bool, true, false, List, ◌∷◌, map, ◌≡◌, refl, ◌≢◌, eqb, leb, length, get_or, set, drop, Option, Some, None}
 use Rattle.std.proofs.Common.{arith, ap, ◌∙◌, subst, subst₂, sym, get_or-set_same, get_or-set_other, eqb-true, leb-true, leb-false}
 use Rattle.std.proofs.Math.ListN.{get_or-eq_default}
 use Rattle.std.proofs.lemmas.Bool.{eqb-false}
 use Rattle.model.specs.Term.{Term, sub}
 use Rattle.theory.specs.Basics.{no_confusion}
 use Rattle.records.specs.Symbols.{arity_of}
-use Rattle.unify.specs.declared.Unified.{Unified}
-use Rattle.unify.specs.declared.Unified.TheVariants.{Yes, No}
 use Rattle.unify.specs.Forest.{up, Down, get_d_any}
 use Rattle.unify.specs.Closure.{Graph, Same, same_label, same_args}
 use Rattle.unify.specs.Inside.{Cyclic, cyclic_none, Read}
@@ -23,22 +21,22 @@ abbrev pub Never : Graph → ℕ → ℕ → Type 0
 Never G p q = (θ : ℕ → Term) → sub θ (G.tree p) ≡ sub θ (G.tree q) → ⊥
 
 -- The answer: the classes of s stand for a most general unifier, or there is none.
-abbrev pub Answers : Graph → ℕ → ℕ → List ℕ → ℕ → Unified → Type 0
-Answers G p q s at (Yes x) = (x ≡ at) × Solved G p q s
-Answers G p q s at No = Never G p q
+abbrev pub Answers : Graph → ℕ → ℕ → List ℕ → ℕ → Option ℕ → Type 0
+Answers G p q s at (Some x) = (x ≡ at) × Solved G p q s
+Answers G p q s at None = Never G p q
 
 -- The answer for the fact at the start of the record a and the one at the place `at` of b.
-abbrev pub Unifies : List ℕ → ℕ → List ℕ → List ℕ → ℕ → List ℕ → Unified → Type 0
+abbrev pub Unifies : List ℕ → ℕ → List ℕ → List ℕ → ℕ → List ℕ → Option ℕ → Type 0
 Unifies sy T a b at s u = Answers (graph_of sy T a b) (node (facts T a b) 0) (node (facts T a b) (T + at)) s at u
 
 -- for a caller that takes the answer apart
-pub answers_yes : (G : Graph) (p q : ℕ) (s : List ℕ) (at x : ℕ) (u : Unified) → u ≡ Yes x → Answers G p q s at u → (x ≡ at) × Solved G p q s
-answers_yes G p q s at x (Yes y) e h = let z : y ≡ x = cc in (sym z ∙ h.0, h.1)
-answers_yes G p q s at x No e h = no_confusion (cc)
+pub answers_yes : (G : Graph) (p q : ℕ) (s : List ℕ) (at x : ℕ) (u : Option ℕ) → u ≡ Some x → Answers G p q s at u → (x ≡ at) × Solved G p q s
+answers_yes G p q s at x (Some y) e h = let z : y ≡ x = cc in (sym z ∙ h.0, h.1)
+answers_yes G p q s at x None e h = no_confusion (cc)
 
-pub answers_no : (G : Graph) (p q : ℕ) (s : List ℕ) (at : ℕ) (u : Unified) → u ≡ No → Answers G p q s at u → Never G p q
-answers_no G p q s at (Yes y) e h = no_confusion (cc)
-answers_no G p q s at No e h = h
+pub answers_no : (G : Graph) (p q : ℕ) (s : List ℕ) (at : ℕ) (u : Option ℕ) → u ≡ None → Answers G p q s at u → Never G p q
+answers_no G p q s at (Some y) e h = no_confusion (cc)
+answers_no G p q s at None e h = h
 
 -- ---- the tables at the start
 -- the first x point at themselves
@@ -179,20 +177,20 @@ module _ (sy ts : List ℕ) where
 
 -- ---- the whole
 module _ (sy : List ℕ) (T : ℕ) (ts b s : List ℕ) (p q : ℕ) (lt : length ts ≡ 2 * T) (ls : length s ≡ 2 * T + 128) (fresh : Fresh b) where
-  pub whole_clash : (c : Bool) → not c ≡ true → Answer (graph sy ts) b s p q c → Never (graph sy ts) p q
+  pub whole_clash : (c : Bool) → c ≡ false → Answer (graph sy ts) b s p q c → Never (graph sy ts) p q
   whole_clash true e h = no_confusion (cc)
   whole_clash false e h = λ θ k. h θ (start_resp (graph sy ts) p q b fresh θ) k
 
-  pub whole_down : (c : Bool) → not c ≡ false → Answer (graph sy ts) b s p q c → Down s
+  pub whole_down : (c : Bool) → c ≡ true → Answer (graph sy ts) b s p q c → Down s
   whole_down true e h = h.0.down
   whole_down false e h = no_confusion (cc)
 
-  pub whole_cycle : (c : Bool) → not c ≡ false → Answer (graph sy ts) b s p q c → (d : Bool) → not d ≡ true → Tested (graph sy ts) s d → Never (graph sy ts) p q
+  pub whole_cycle : (c : Bool) → c ≡ true → Answer (graph sy ts) b s p q c → (d : Bool) → d ≡ false → Tested (graph sy ts) s d → Never (graph sy ts) p q
   whole_cycle true e h false f t = λ θ k. cyclic_none (graph sy ts) s t θ (h.0.forced θ (start_resp (graph sy ts) p q b fresh θ) k)
   whole_cycle true e h true f t = no_confusion (cc)
   whole_cycle false e h d f t = no_confusion (cc)
 
-  pub whole : (c : Bool) → not c ≡ false → Answer (graph sy ts) b s p q c → (d : Bool) → not d ≡ false → Tested (graph sy ts) s d → Solved (graph sy ts) p q s
+  pub whole : (c : Bool) → c ≡ true → Answer (graph sy ts) b s p q c → (d : Bool) → d ≡ true → Tested (graph sy ts) s d → Solved (graph sy ts) p q s
   whole true e h true f t = solved (graph sy ts) p q b fresh s h.0 h.1 (omega arith) (λ x l. t (length ts + x) (omega arith) l)
   whole true e h false f t = no_confusion (cc)
   whole false e h d f t = no_confusion (cc)
