@@ -18,7 +18,6 @@ use Rattle.unify.specs.Inside.{Read}
 use Rattle.unify.specs.Nodes.{graph, tok, args_in, args_length}
 use Rattle.unify.specs.Facts.{facts, Given, facts_length}
 use Rattle.unify.specs.Writer.{codes, codes_all, codes_size, codes_all_append, Writes, Wrote, Asked}
-use Rattle.combine.specs.declared.State.{State}
 use Rattle.combine.specs.declared.TooLarge.{TooLarge}
 use Rattle.combine.specs.Codes.{Keeps, kvar, kcon, kapp, KeepAll, keep_append, all_size}
 use Rattle.combine.specs.Copies.{Says, Copy, Marks, copy_says, firsts_old, firsts_new, more_size, more_count, among_size, size_all_append}
@@ -93,17 +92,9 @@ pub record Over (sy ts s : List ℕ) (T hyps : ℕ) (ns : List ℕ) : Type 0 whe
   pub reads : ReadsAll (graph sy ts) s ns (concl ∷ done)
   pub over : (T < size concl + size_all (firsts [] done)) ⊎ (hyps < length (firsts [] done))
 
-abbrev pub Outcome : List ℕ → List ℕ → List ℕ → ℕ → ℕ → List ℕ → List ℕ → List ℕ → Result State TooLarge → Type 0
-Outcome sy ts s T hyps o starts ns (Ok st) = Built sy ts s T hyps o starts st.end st.count ns
-Outcome sy ts s T hyps o starts ns (Err _) = Over sy ts s T hyps ns
-
--- What adding a fact needs.
-pub record Ready (sy : List ℕ) (T hyps : ℕ) (a b s o starts : List ℕ) (st : State) : Type 0 where
-  pub site : Site sy T a b s
-  pub room : hyps ≤ length starts
-  pub space : length o ≡ 2 * T
-  pub nodes : List ℕ
-  pub built : Built sy (facts T a b) s T hyps o starts st.end st.count nodes
+abbrev pub Outcome : List ℕ → List ℕ → List ℕ → ℕ → ℕ → List ℕ → List ℕ → ℕ → ℕ → List ℕ → Result (Unit {0}) TooLarge → Type 0
+Outcome sy ts s T hyps o starts e n ns (Ok _) = Built sy ts s T hyps o starts e n ns
+Outcome sy ts s T hyps o starts e n ns (Err _) = Over sy ts s T hyps ns
 
 marks_le : (starts : List ℕ) (j p : ℕ) (K : List Term) → Marks starts j p K → (i : ℕ) → i < length K → get_or starts (j + i) 0 ≤ p + size_all K
 unfolding size_all
@@ -124,7 +115,7 @@ marks_set starts j p (u ∷ K) t e m l q =
     )
 
 -- ---- the conclusion
-module _ (sy : List ℕ) (T : ℕ) (a b s : List ℕ) (S : Site sy T a b s) (o o' : List ℕ) (i j e : ℕ) (at : j ≡ i) (l : j < 2 * T + 128) (W : Writes (graph sy (facts T a b)) s j T o o' 0 e) where
+module _ (sy : List ℕ) (T : ℕ) (a b s : List ℕ) (S : Site sy T a b s) (o o' : List ℕ) (i e : ℕ) (l : i < 2 * T + 128) (W : Writes (graph sy (facts T a b)) s i T o o' 0 e) where
   abbrev ts : List ℕ
   ts = facts T a b
 
@@ -136,7 +127,7 @@ module _ (sy : List ℕ) (T : ℕ) (a b s : List ℕ) (S : Site sy T a b s) (o o
   r = (S.reads i).1
 
   w : Wrote T o o' 0 e (codes t)
-  w = W t (subst (λ (k : ℕ). Reads (graph sy ts) s k t) (sym at) r)
+  w = W t r
 
   pub start_long : T < e → (hyps : ℕ) → Over sy ts s T hyps (i ∷ [])
   unfolding size_all firsts
@@ -160,8 +151,7 @@ module _ (sy : List ℕ) (T : ℕ) (a b s : List ℕ) (S : Site sy T a b s) (o o
       }
 
 -- ---- a hypothesis
-module _ (sy : List ℕ) (T hyps : ℕ) (a b s : List ℕ) (S : Site sy T a b s) (o o' starts : List ℕ) (e n i j f : ℕ) (at : j ≡ i) (l : j < 2 * T + 128)
-    (W : Writes (graph sy (facts T a b)) s j (e + T) o o' e f) (ns : List ℕ) (B : Built sy (facts T a b) s T hyps o starts e n ns)
+module _ (sy : List ℕ) (T hyps : ℕ) (a b s : List ℕ) (S : Site sy T a b s) (o o' starts : List ℕ) (e n i f : ℕ) (l : i < 2 * T + 128) (W : Writes (graph sy (facts T a b)) s i (e + T) o o' e f) (ns : List ℕ) (B : Built sy (facts T a b) s T hyps o starts e n ns)
   where
     abbrev ts' : List ℕ
     ts' = facts T a b
@@ -177,7 +167,7 @@ module _ (sy : List ℕ) (T hyps : ℕ) (a b s : List ℕ) (S : Site sy T a b s)
     ku = keep_one sy ts' s S.down S.bytes (omega (arith, facts_length T a b S.given)) v
 
     x : Wrote (e + T) o o' e f (codes u)
-    x = W u (subst (λ (k : ℕ). Reads (graph sy ts') s k u) (sym at) v)
+    x = W u v
 
     K : List Term
     K = firsts [] B.done

@@ -342,16 +342,14 @@ facts_bytes T a b g ha hb p = go (leb T p) refl (leb (2 * T) p) refl
     go true e false f = let y = leb-true T p e in let z = leb-false (2 * T) p f in omega (arith, fact_right T a b g p y (omega arith), hb (p - T + 2))
     go true e true f = omega (arith, fact_past T a b g p (leb-true (2 * T) p f))
 
-pub site_of :
-    (sy : List ℕ) (T hyps vars at : ℕ) (a b s o starts names rec : List ℕ) → Combinable sy T hyps vars at a b s o starts names rec → ((i : ℕ) → get_or a i 0 < 256) → ((i : ℕ) → get_or b i 0 < 256)
-    → Site sy T a b s
-site_of sy T hyps vars at a b s o starts names rec C ha hb =
+pub site_of : (sy : List ℕ) (T : ℕ) (a b s : List ℕ) (p q : ℕ) → Given T a b → Solved (graph sy (facts T a b)) p q s → ((i : ℕ) → get_or a i 0 < 256) → ((i : ℕ) → get_or b i 0 < 256) → Site sy T a b s
+site_of sy T a b s p q G S ha hb =
     record {
-      given = C.given;
-      down = C.solved.down;
-      len = omega (arith, C.solved.len, facts_length T a b C.given);
-      bytes = facts_bytes T a b C.given ha hb;
-      reads = λ i. (_, C.solved.reads i);
+      given = G;
+      down = S.down;
+      len = omega (arith, S.len, facts_length T a b G);
+      bytes = facts_bytes T a b G ha hb;
+      reads = λ i. (_, S.reads i);
     }
 
 -- Any limits with these three numbers.

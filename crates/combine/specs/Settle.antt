@@ -1,5 +1,5 @@
 -- The text of a rule becomes a record: whether it fits, and the bytes. Assumes nothing.
-use Rattle.std.specs.Prelude.{ℕ, ◌+◌, ◌*◌, ◌-◌, ◌≤◌, ◌<◌, Bool, true, false, ◌≡◌, refl, ◌⊎◌, leb, get_or, Result}
+use Rattle.std.specs.Prelude.{ℕ, ◌+◌, ◌*◌, ◌-◌, ◌≤◌, ◌<◌, Bool, true, false, ◌≡◌, refl, ◌⊎◌, leb, get_or}
 use native.Mathlib.Omega.{arith}
 use mathlib.Core.List.{List, [], ◌∷◌, ◌++◌, map, append_assoc}
 use Rattle.std.proofs.Math.Path.{ap, ap₂, sym, subst}
@@ -20,10 +20,8 @@ use Rattle.unify.specs.Nodes.{graph, node}
 use Rattle.unify.specs.Facts.{facts}
 use Rattle.unify.specs.Read.{ReadsAll}
 use Rattle.unify.specs.Writer.{codes_all}
-use Rattle.combine.specs.declared.State.{State}
 use Rattle.combine.specs.Codes.{code_vars, token, numbers, all_vars_lem, all_tokens, all_low, every_at}
-use Rattle.combine.specs.declared.TooLarge.{TooLarge}
-use Rattle.combine.specs.Built.{Site, Built, Over, Outcome, over_more}
+use Rattle.combine.specs.Built.{Site, Built, Over, over_more}
 use Rattle.combine.specs.Places.{visits}
 use Rattle.combine.specs.Numbers.{Numbered}
 
@@ -42,11 +40,6 @@ all_nodes sy T a b at =
     ∷ (visits (arity_of sy) (facts T a b) (tokens_of a) 0 (T + at) (get_or a 0 0) (span (arity_of sy) 1 (tokens_of a))
     ++ visits (arity_of sy) (facts T a b) (tokens_of b) T (T + at) (get_or b 0 0) (span (arity_of sy) 1 (tokens_of b)))
 
--- a side's tokens and count by other names
-side_same : (sy ts : List ℕ) (base skip : ℕ) (rec tk : List ℕ) (n : ℕ) → tk ≡ tokens_of rec → n ≡ get_or rec 0 0
-    → visits (arity_of sy) ts tk base skip n (span (arity_of sy) 1 tk) ≡ visits (arity_of sy) ts (tokens_of rec) base skip (get_or rec 0 0) (span (arity_of sy) 1 (tokens_of rec))
-side_same sy ts base skip rec tk n e q = ap₂ (λ (l : List ℕ) (m : ℕ). visits (arity_of sy) ts l base skip m (span (arity_of sy) 1 l)) e q
-
 pub tokens_short : (T : ℕ) (rec tk : List ℕ) → get_or rec 1 0 ≤ T → tk ≡ tokens_of rec → length tk ≤ T
 unfolding tokens_of
 tokens_short T rec tk l e = omega (arith, ap length e, length-take (get_or rec 1 0) (drop 2 rec))
@@ -55,28 +48,15 @@ module _ (sy : List ℕ) (T hyps at : ℕ) (a b s : List ℕ) (S : Site sy T a b
   abbrev both : List ℕ
   both = facts T a b
 
-  abbrev side_of : ℕ → ℕ → List ℕ → ℕ → List ℕ
-  side_of base skip tk n = visits (arity_of sy) both tk base skip n (span (arity_of sy) 1 tk)
-
   -- too large with the conclusion
   pub start_over : Over sy both s T hyps (node both T ∷ []) → Over sy both s T hyps (all_nodes sy T a b at)
   unfolding all_nodes
   start_over v = over_more sy both s T hyps (node both T ∷ []) _ S.reads v
 
   -- too large with the hypotheses of a
-  pub left_over : (tk : List ℕ) (n : ℕ) → tk ≡ tokens_of a → n ≡ get_or a 0 0 → Over sy both s T hyps ((node both T ∷ []) ++ side_of 0 (T + at) tk n) → Over sy both s T hyps (all_nodes sy T a b at)
+  pub left_over : Over sy both s T hyps (node both T ∷ visits (arity_of sy) both (tokens_of a) 0 (T + at) (get_or a 0 0) (span (arity_of sy) 1 (tokens_of a))) → Over sy both s T hyps (all_nodes sy T a b at)
   unfolding all_nodes
-  left_over tk n e q v =
-      over_more sy both s T hyps (node both T ∷ side_of 0 (T + at) (tokens_of a) (get_or a 0 0)) _ S.reads
-      (subst (λ (l : List ℕ). Over sy both s T hyps (node both T ∷ l)) (side_same sy both 0 (T + at) a tk n e q) v)
-
-  pub all_outcome :
-      (tk : List ℕ) (n : ℕ) (uk : List ℕ) (m : ℕ) → tk ≡ tokens_of a → n ≡ get_or a 0 0 → uk ≡ tokens_of b → m ≡ get_or b 0 0 → (o starts : List ℕ) (r : Result State TooLarge)
-      → Outcome sy both s T hyps o starts (((node both T ∷ []) ++ side_of 0 (T + at) tk n) ++ side_of T (T + at) uk m) r → Outcome sy both s T hyps o starts (all_nodes sy T a b at) r
-  unfolding all_nodes
-  all_outcome tk n uk m e q f p o starts r h =
-      subst (λ (l : List ℕ). Outcome sy both s T hyps o starts l r)
-      (ap₂ (λ (x y : List ℕ). node both T ∷ (x ++ y)) (side_same sy both 0 (T + at) a tk n e q) (side_same sy both T (T + at) b uk m f p)) h
+  left_over v = over_more sy both s T hyps _ _ S.reads v
 
 -- What numbering a text needs: no variable has a name yet.
 pub record Numberable (text : List ℕ) (vars : ℕ) (names rec : List ℕ) : Type 0 where
@@ -170,13 +150,9 @@ over_settled sy ts s T hyps vars old new ns v =
     go (inl h) = unfold drop_copies in fits_long hyps T vars (drop_copies (rule v.concl v.done)) h
     go (inr h) = unfold drop_copies in fits_many hyps T vars (drop_copies (rule v.concl v.done)) h
 
--- What writing a text as a record needs.
-pub record Writable (o : List ℕ) (st : State) (T vars : ℕ) (names rec : List ℕ) : Type 0 where
-  pub small : T ≤ 248
-  pub space : length o ≡ 2 * T
-  pub long : st.end ≤ T
-  pub few : st.count < 256
-  pub low : (i : ℕ) → i < st.end → get_or o i 0 < 384
+-- What writing the record needs besides a draft.
+pub record Writable (T hyps vars : ℕ) (names rec : List ℕ) : Type 0 where
+  pub few : hyps < 256
   pub wide : length names ≡ 128
   pub room : T + 2 ≤ length rec
   pub count : vars ≤ 32

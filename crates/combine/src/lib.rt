@@ -1,208 +1,76 @@
 #![tactic(auto)]
 
-ghost use Rattle.std.specs.Prelude.{◌≡◌, List, [], ◌∷◌, ◌++◌, ℕ, ◌+◌, ◌-◌, ◌*◌, ◌≤◌, ◌<◌, length, take, drop, is_ok, All, slice_range};
+ghost use Rattle.std.specs.Prelude.{◌≡◌, List, [], ◌∷◌, ◌++◌, ℕ, ◌+◌, ◌-◌, ◌*◌, ◌≤◌, ◌<◌, length, take, get_or, is_ok, All};
 ghost use Rattle.std.specs.Int.Count.{count_trailing_zeros};
 ghost use Rattle.model.specs.Term.{Term};
 ghost use Rattle.model.specs.Rule.{Rule};
-ghost use Rattle.records.specs.Tokens.{span as span_of};
-ghost use Rattle.records.specs.Symbols.{arity_of};
-ghost use Rattle.unify.specs.Nodes.{node};
-ghost use Rattle.unify.specs.Facts.{facts};
+ghost use Rattle.records.specs.Rules.{tokens_of};
+ghost use Rattle.unify.specs.Nodes.{node, graph};
+ghost use Rattle.unify.specs.Facts.{facts, Given};
+ghost use Rattle.unify.specs.Solve.{Solved};
+ghost use Rattle.unify.specs.Writer.{Writes};
 ghost use Rattle.combine.specs.Copies.{has_copy};
-ghost use Rattle.combine.specs.Built.{Site, Built, Ready, Outcome};
-ghost use Rattle.combine.specs.Places.{visits};
+ghost use Rattle.combine.specs.Built.{Site};
+ghost use Rattle.combine.specs.Once.{one_site};
 ghost use Rattle.combine.specs.Numbers.{Naming, Named, Numbered};
-ghost use Rattle.combine.specs.Settle.{Sheets, all_nodes, Numberable, Writable, Settled};
+ghost use Rattle.combine.specs.Settle.{Numberable, Writable};
 ghost use Rattle.combine.specs.Final.{Combinable, Combines, CombinationIs};
 
-use records::parts::wide;
 use records::rules::tokens;
 use terms::{fact_start, span, with};
-use unify::{node_at, write};
-
-/// Where the text of what is kept ends, and how many hypotheses are kept.
-#[derive(Clone, Copy, Debug, PartialEq, Eq)]
-pub struct State {
-    pub end: usize,
-    pub count: usize,
-}
+use unify::Pair;
 
 /// The rule does not fit: more hypotheses, tokens or variables than allowed.
 #[derive(Clone, Copy, Debug, PartialEq, Eq)]
 pub struct TooLarge;
 
-// Do the n codes at p stand at one of these starts, too?
-fn is_copy(text: &[u16], starts: &[u16], p: usize, n: usize) -> bool
-    requires here { p + n ≤ length text.now }
-    requires before { All (λ s. s ≤ p) starts.now }
-    ensures { result ≡ has_copy text.now starts.now p n }
-{
-    starts.iter().any(|&s| {
-        let from = usize::from(s);
-        text[from..from + n] == text[p..p + n]
-    })
+// Two records with the classes of a unifier: the instance of each fact can be read off them.
+#[derive(Clone, Copy)]
+struct Instances<'a> {
+    pair: Pair<'a>,
+    rep: &'a [u16],
+    ghost site: { Site pair.symbols.now pair.toks pair.a.now pair.b.now rep.now } by { one_site pair.symbols.now pair.toks pair.a.now pair.b.now rep.now },
 }
 
-// Begins the text with the instance of the fact at a place: the conclusion.
-fn start(
-    symbols: &[u8],
-    a: &[u8],
-    b: &[u8],
-    toks: usize,
-    rep: &[u16],
-    o: &mut [u16],
-    place: usize,
-) -> Result<State, TooLarge>
-    requires { Site symbols.now toks a.now b.now rep.now × ((length o.old ≡ 2 * toks) × (place ≤ 2 * toks)) }
-    ensures { (hyps : ℕ) (starts : List ℕ) → Outcome symbols.now (facts toks a.now b.now) rep.now toks hyps o.new starts (node (facts toks a.now b.now) place ∷ []) result }
-{
-    let e = write(
-        symbols,
-        a,
-        b,
-        toks,
-        rep,
-        o,
-        0,
-        toks,
-        node_at(a, b, toks, place),
-    );
-    if toks < e {
-        return Err(TooLarge);
-    }
-    Ok(State { end: e, count: 0 })
+// A rule as it grows: the text of its conclusion and of each hypothesis that is kept, and where these start.
+#[derive(Drop)]
+struct Draft<'a, 'b> {
+    of: Instances<'a>,
+    text: &'b mut [u16],
+    starts: &'b mut [u16],
+    end: usize,
+    count: usize,
+    ghost space: { length text.now ≡ 2 * of.pair.toks },
 }
 
-// Adds the instance of the fact at a place, unless it is a copy of one that is kept.
-fn add(
-    symbols: &[u8],
-    a: &[u8],
-    b: &[u8],
-    toks: usize,
-    hyps: usize,
-    rep: &[u16],
-    o: &mut [u16],
-    starts: &mut [u16],
-    s: State,
-    place: usize,
-) -> Result<State, TooLarge>
-    requires { Ready symbols.now toks hyps a.now b.now rep.now o.old starts.old s × (place ≤ 2 * toks) }
-    ensures { (ns : List ℕ) → Built symbols.now (facts toks a.now b.now) rep.now toks hyps o.old starts.old s.end s.count ns → Outcome symbols.now (facts toks a.now b.now) rep.now toks hyps o.new starts.new (ns ++ (node (facts toks a.now b.now) place ∷ [])) result }
-{
-    let end = s.end;
-    let count = s.count;
-    let cap = end + toks;
-    let e = write(
-        symbols,
-        a,
-        b,
-        toks,
-        rep,
-        o,
-        end,
-        cap,
-        node_at(a, b, toks, place),
-    );
-    if cap < e {
-        return Err(TooLarge);
-    }
-    if is_copy(o, &starts[..count], end, e - end) {
-        return Ok(s);
-    }
-    if toks < e {
-        return Err(TooLarge);
-    }
-    if hyps <= count {
-        return Err(TooLarge);
-    }
-    starts[count] = end as u16;
-    Ok(State {
-        end: e,
-        count: count + 1,
-    })
-}
-
-// Adds the n hypotheses whose facts stand in `tokens` behind the first fact, but for the one at `skip`; the place p of the tokens is base + p.
-fn add_side(
-    symbols: &[u8],
-    a: &[u8],
-    b: &[u8],
-    toks: usize,
-    hyps: usize,
-    rep: &[u16],
-    o: &mut [u16],
-    starts: &mut [u16],
-    s: State,
-    tokens: &[u8],
-    n: usize,
-    base: usize,
-    skip: usize,
-) -> Result<State, TooLarge>
-    requires { Ready symbols.now toks hyps a.now b.now rep.now o.old starts.old s × (base + length tokens.now ≤ 2 * toks) }
-    ensures { (ns : List ℕ) → Built symbols.now (facts toks a.now b.now) rep.now toks hyps o.old starts.old s.end s.count ns → Outcome symbols.now (facts toks a.now b.now) rep.now toks hyps o.new starts.new (ns ++ visits (arity_of symbols.now) (facts toks a.now b.now) tokens.now base skip n (span_of (arity_of symbols.now) 1 tokens.now)) result }
-{
-    let mut st = s;
-    let mut at = fact_start(symbols, tokens, 1);
-    let mut k: usize = 0;
-    while k < n {
-        let p = base + at;
-        at += span(symbols, tokens, at, 1);
-        k += 1;
-        if p == skip {
-            continue;
+impl<'a> Instances<'a> {
+    // From the parts of a pair: that each token is a byte is known of a slice that is passed, and not of one in a struct.
+    fn new(symbols: &'a [u8], a: &'a [u8], b: &'a [u8], toks: usize, rep: &'a [u16]) -> Self
+        requires given { Given toks a.now b.now }
+        requires solved { (p : ℕ) × ((q : ℕ) × Solved (graph symbols.now (facts toks a.now b.now)) p q rep.now) }
+        ensures pair { (result.pair.symbols.now ≡ symbols.now) × ((result.pair.a.now ≡ a.now) × ((result.pair.b.now ≡ b.now) × (result.pair.toks ≡ toks))) }
+        ensures classes { result.rep.now ≡ rep.now }
+    {
+        Instances {
+            pair: Pair {
+                symbols,
+                a,
+                b,
+                toks,
+            },
+            rep,
         }
-        st = add(symbols, a, b, toks, hyps, rep, o, starts, st, p)?;
     }
-    Ok(st)
-}
 
-// Gathers the rule: the conclusion of b, the hypotheses of a, and those of b but the one at `at`.
-fn gathered(
-    symbols: &[u8],
-    a: &[u8],
-    b: &[u8],
-    toks: usize,
-    hyps: usize,
-    at: usize,
-    rep: &[u16],
-    o: &mut [u16],
-    starts: &mut [u16],
-) -> Result<State, TooLarge>
-    requires { Site symbols.now toks a.now b.now rep.now × Sheets toks hyps at a.now b.now o.old starts.old }
-    ensures { Outcome symbols.now (facts toks a.now b.now) rep.now toks hyps o.new starts.new (all_nodes symbols.now toks a.now b.now at) result }
-{
-    let s = start(symbols, a, b, toks, rep, o, toks)?;
-    let skip = toks + at;
-    let t = add_side(
-        symbols,
-        a,
-        b,
-        toks,
-        hyps,
-        rep,
-        o,
-        starts,
-        s,
-        tokens(a),
-        wide(a[0]),
-        0,
-        skip,
-    )?;
-    add_side(
-        symbols,
-        a,
-        b,
-        toks,
-        hyps,
-        rep,
-        o,
-        starts,
-        t,
-        tokens(b),
-        wide(b[0]),
-        toks,
-        skip,
-    )
+    // Writes the instance of the fact at a place from p on, and returns the place behind it; cap + 1 where that is past cap.
+    fn write(&self, place: usize, text: &mut [u16], p: usize, cap: usize) -> usize
+        requires places { (place ≤ 2 * self.now.pair.toks) × (p ≤ cap) }
+        requires room { cap ≤ length text.old }
+        ensures { let pair = self.now.pair in let ts = facts pair.toks pair.a.now pair.b.now in Writes (graph pair.symbols.now ts) self.now.rep.now (node ts place) cap text.old text.new p result }
+    {
+        self.pair
+            .write(self.rep, text, p, cap, self.pair.node_at(place))
+    }
 }
 
 // The least number that a set of numbers lacks.
@@ -247,46 +115,141 @@ fn number(text: &[u16], vars: usize, names: &mut [u8], rec: &mut [u8]) -> Result
     Ok(())
 }
 
-// Writes the rule that a text holds, unless it has more than `vars` variables.
-fn written(
-    o: &[u16],
-    s: State,
-    toks: usize,
-    vars: usize,
-    names: &mut [u8],
-    rec: &mut [u8],
-) -> Result<(), TooLarge>
-    requires { Writable o.now s toks vars names.old rec.old }
-    ensures { (sy ts srep : List ℕ) (hyps : ℕ) (starts ns : List ℕ) → Built sy ts srep toks hyps o.now starts s.end s.count ns → Settled sy ts srep toks hyps vars rec.old rec.new ns (is_ok result) }
-{
-    let end = s.end;
-    names.fill(0);
-    number(&o[..end], vars, names, rec)?;
-    rec[end + 2..toks + 2].fill(0);
-    rec[0] = s.count as u8;
-    rec[1] = end as u8;
-    Ok(())
+impl<'a, 'b> Draft<'a, 'b> {
+    ghost use Rattle.combine.specs.Draft.{node_of, side_of, nodes_of, Holds, IsSameRoom, Leaves, IsWritten};
+
+    // Begins with the instance of the fact at a place: the conclusion.
+    fn start(&mut self, place: usize) -> Result<(), TooLarge>
+        requires { place ≤ 2 * self.old.of.pair.toks }
+        ensures same { IsSameRoom self.old self.new }
+        ensures left { Leaves self.old self.new (node_of self.old.of place ∷ []) result }
+    {
+        let toks = self.of.pair.toks;
+        self.end = self.of.write(place, self.text, 0, toks);
+        self.count = 0;
+        if toks < self.end {
+            return Err(TooLarge);
+        }
+        Ok(())
+    }
+
+    // Do the n codes at p stand at one of the starts, too?
+    fn is_copy(&self, p: usize, n: usize) -> bool
+        requires counted { self.now.count ≤ length self.now.starts.now }
+        requires here { p + n ≤ length self.now.text.now }
+        requires before { All (λ s. s ≤ p) (take self.now.count self.now.starts.now) }
+        ensures { result ≡ has_copy self.now.text.now (take self.now.count self.now.starts.now) p n }
+    {
+        let text = &*self.text;
+        self.starts[..self.count].iter().any(|&s| {
+            let from = usize::from(s);
+            text[from..from + n] == text[p..p + n]
+        })
+    }
+
+    // Adds the instance of the fact at a place, unless it is a copy of one that is kept.
+    fn add(&mut self, place: usize) -> Result<(), TooLarge>
+        requires held { (ns : List ℕ) × Holds self.old ns }
+        requires inside { place ≤ 2 * self.old.of.pair.toks }
+        ensures same { IsSameRoom self.old self.new }
+        ensures left { (ns : List ℕ) → Holds self.old ns → Leaves self.old self.new (ns ++ (node_of self.old.of place ∷ [])) result }
+    {
+        let toks = self.of.pair.toks;
+        let end = self.end;
+        let cap = end + toks;
+        let next = self.of.write(place, self.text, end, cap);
+        if cap < next {
+            return Err(TooLarge);
+        }
+        if self.is_copy(end, next - end) {
+            return Ok(());
+        }
+        if toks < next || self.starts.len() <= self.count {
+            return Err(TooLarge);
+        }
+        self.starts[self.count] = end as u16;
+        self.count += 1;
+        self.end = next;
+        Ok(())
+    }
+
+    // Adds the hypotheses of a record but for the one at `skip`; the place p of its tokens is base + p.
+    fn add_side(&mut self, rec: &[u8], base: usize, skip: usize) -> Result<(), TooLarge>
+        requires held { (ns : List ℕ) × Holds self.old ns }
+        requires counted { 0 < length rec.now }
+        requires inside { base + length (tokens_of rec.now) ≤ 2 * self.old.of.pair.toks }
+        ensures same { IsSameRoom self.old self.new }
+        ensures left { (ns : List ℕ) → Holds self.old ns → Leaves self.old self.new (ns ++ side_of self.old.of rec.now base skip) result }
+    {
+        let symbols = self.of.pair.symbols;
+        let tokens = tokens(rec);
+        let mut at = fact_start(symbols, tokens, 1);
+        for _ in 0..rec[0] {
+            let place = base + at;
+            at += span(symbols, tokens, at, 1);
+            if place == skip {
+                continue;
+            }
+            self.add(place)?;
+        }
+        Ok(())
+    }
+
+    // Gathers the rule: the conclusion of b, the hypotheses of a, and those of b but the one at `at`.
+    fn gather(&mut self, at: usize) -> Result<(), TooLarge>
+        requires counts { (get_or self.old.of.pair.a.now 1 0 ≤ self.old.of.pair.toks) × (get_or self.old.of.pair.b.now 1 0 ≤ self.old.of.pair.toks) }
+        requires inside { at ≤ self.old.of.pair.toks }
+        ensures same { IsSameRoom self.old self.new }
+        ensures left { Leaves self.old self.new (nodes_of self.old.of at) result }
+    {
+        let pair = self.of.pair;
+        let skip = pair.toks + at;
+        self.start(pair.toks)?;
+        self.add_side(pair.a, 0, skip)?;
+        self.add_side(pair.b, pair.toks, skip)
+    }
+
+    // Writes the rule as a record, unless it has more than `vars` variables.
+    fn write(&self, vars: usize, names: &mut [u8], rec: &mut [u8]) -> Result<(), TooLarge>
+        requires held { (ns : List ℕ) × Holds self.now ns }
+        requires room { Writable self.now.of.pair.toks (length self.now.starts.now) vars names.old rec.old }
+        ensures { (ns : List ℕ) → Holds self.now ns → IsWritten self.now vars rec.old rec.new ns (is_ok result) }
+    {
+        let toks = self.of.pair.toks;
+        let end = self.end;
+        names.fill(0);
+        number(&self.text[..end], vars, names, rec)?;
+        rec[end + 2..toks + 2].fill(0);
+        rec[0] = self.count as u8;
+        rec[1] = end as u8;
+        Ok(())
+    }
 }
 
-// Writes the combination of the rules in a and b upon the hypothesis at the place `at` of b, after `unify` found the classes `rep`.
-// False where it does not fit: more than `hyps` hypotheses, `toks` tokens or `vars` variables.
-pub fn combined(
-    symbols: &[u8],
-    a: &[u8],
-    b: &[u8],
-    toks: usize,
+/// Writes the combination of the rules in a and b upon the hypothesis at the place `at` of b, after `unify` found the classes `rep`.
+/// It is too large with more than `hyps` hypotheses, `toks` tokens or `vars` variables.
+pub fn combined<'a, 'b>(
+    pair: &Pair<'a>,
     hyps: usize,
     vars: usize,
     at: usize,
-    rep: &[u16],
-    o: &mut [u16],
-    starts: &mut [u16],
+    rep: &'a [u16],
+    o: &'b mut [u16],
+    starts: &'b mut [u16],
     names: &mut [u8],
     rec: &mut [u8],
 ) -> Result<(), TooLarge>
-    requires { Combinable symbols.now toks hyps vars at a.now b.now rep.now o.old starts.old names.old rec.old }
-    ensures { (r : Rule) (r' : Rule) (k : ℕ) (h : Term) → Combines symbols.now a.now b.now at r r' k h → CombinationIs toks hyps vars r r' k rec.old rec.new (is_ok result) }
+    requires { Combinable pair.now.symbols.now pair.now.toks hyps vars at pair.now.a.now pair.now.b.now rep.now o.old starts.old names.old rec.old }
+    ensures { (r : Rule) (r' : Rule) (k : ℕ) (h : Term) → Combines pair.now.symbols.now pair.now.a.now pair.now.b.now at r r' k h → CombinationIs pair.now.toks hyps vars r r' k rec.old rec.new (is_ok result) }
 {
-    let s = gathered(symbols, a, b, toks, hyps, at, rep, o, starts)?;
-    written(o, s, toks, vars, names, rec)
+    let of = Instances::new(pair.symbols, pair.a, pair.b, pair.toks, rep);
+    let mut draft = Draft {
+        of,
+        text: o,
+        starts: &mut starts[..hyps],
+        end: 0,
+        count: 0,
+    };
+    draft.gather(at)?;
+    draft.write(vars, names, rec)
 }
