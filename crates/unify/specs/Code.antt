@@ -156,7 +156,7 @@ pub record Joint (sy : List ℕ) (T : ℕ) (ts r : List ℕ) (i j lo hi : ℕ) :
   pub el : lo ≡ min (find r i) (find r j)
   pub eh : hi ≡ max (find r i) (find r j)
 
-module _ (sy : List ℕ) (T : ℕ) (ts r : List ℕ) (i j lo hi : ℕ) (J : Joint sy T ts r i j lo hi) where
+module _ {sy : List ℕ} {T : ℕ} {ts r : List ℕ} {i j lo hi : ℕ} (J : Joint sy T ts r i j lo hi) where
   len : length r ≡ length ts + 128
   len = let a = J.lt in let b = J.lr in omega arith
 
@@ -243,11 +243,3 @@ module _ (sy ts : List ℕ) where
       let z : n - k ≡ 0 = omega arith in
       subst₂ (λ (us vs : List ℕ). Part (graph sy ts) s t (args_at sy ts (suc lo) (arity_of sy (tok ts lo))) (args_at sy ts (suc hi) (arity_of sy (tok ts hi))) us vs)
       (ap (args_at sy ts p) z ∙ no_args p) (ap (args_at sy ts q) z ∙ no_args q) P
-
-pub answer_no : (G : Graph) (r s w : List ℕ) (i j : ℕ) (b : Bool) → b ≡ false → Answer G r s i j b → Answer G r w i j false
-answer_no G r s w i j true e h = let z : ◌≡◌ {A = ℕ} 0 1 = cc in absurd (omega arith)
-answer_no G r s w i j false e h = h
-
-pub answer_yes : (G : Graph) (r s : List ℕ) (i j : ℕ) (b : Bool) → b ≡ true → Answer G r s i j b → Answer G r s i j true
-answer_yes G r s i j true e h = h
-answer_yes G r s i j false e h = let z : ◌≡◌ {A = ℕ} 0 1 = cc in absurd (omega arith)

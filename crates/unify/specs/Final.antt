@@ -1,6 +1,7 @@
 -- The code's answer is the model's combination, and what it writes are instances. Assumes nothing.
-use Rattle.std.specs.Prelude.{ℕ, ◌+◌, ◌*◌, ◌≤◌, ◌<◌, Bool, true, false, List, ◌++◌, ◌≡◌, refl, leb, length, take, drop, Some, None}
-use Rattle.std.proofs.Common.{arith, ap, ◌∙◌, subst, sym, leb-true, leb-false}
+use Rattle.std.specs.Prelude.{ℕ, ◌+◌, ◌*◌, ◌≤◌, ◌<◌, Bool, true, false, List, ◌++◌, ◌≡◌, refl, length, take, drop, Some, None}
+use Rattle.std.specs.Prelude as code
+use Rattle.std.proofs.Common.{arith, ap, ◌∙◌, subst, sym, length-take}
 use Rattle.std.proofs.Math.Option.{Option, none, some}
 use Rattle.model.specs.Term.{Term, var, sub, size, unify, apply, Bindings}
 use Rattle.model.specs.Rule.{Rule, normal, sub_rule, nth, left, right, by_unifier, upon, combine}
@@ -72,56 +73,38 @@ module _ (sy : List ℕ) (T : ℕ) (a b s : List ℕ) (G : Given T a b) (S : Sig
         the_combination sy (facts T a b) s S A r r' k 0 (T + at) at h is fp lp (stands_left T a b G 0 r.concl u P) fq lq (stands_right T a b G at h v Q) x w
 
 -- ---- the instances
--- From p on the term is written, and e is the place behind it, if that is at most cap; else e is cap + 1.
-pub record Written (cap : ℕ) (o w : List ℕ) (p e : ℕ) (t : Term) : Type 0 where
-  pub fits : p + size t ≤ cap → (e ≡ p + size t) × (take e w ≡ take p o ++ codes t)
-  pub short : cap < p + size t → e ≡ cap + 1
+-- The term is written at the start of w and its length returned, where there is room for it; where not, None.
+pub record Written (w : List ℕ) (r : code.Option ℕ) (t : Term) : Type 0 where
+  pub fits : size t ≤ length w → (r ≡ Some (size t)) × (take (size t) w ≡ codes t)
+  pub short : length w < size t → r ≡ None
 
-written : (cap : ℕ) (o w : List ℕ) (p e : ℕ) (t : Term) → Wrote cap o w p e (codes t) → Written cap o w p e t
-written cap o w p e t W = go (leb e cap) refl
-  where
-    n : length (codes t) ≡ size t
-    n = codes_size t
-
-    go : (b : Bool) → leb e cap ≡ b → Written cap o w p e t
-    go true q =
-        let y = W.fits (leb-true e cap q) in
-        record { fits = λ l. (omega (arith, y.0, n), y.1); short = λ l. absurd (omega (arith, y.0, n, leb-true e cap q)) }
-    go false q =
-        let y = W.short (leb-false e cap q) in
-        record { fits = λ l. absurd (omega (arith, y, n)); short = λ l. omega (arith, leb-false e cap q, W.most) }
+written : (w : List ℕ) (r : code.Option ℕ) (t : Term) → Wrote w r (codes t) → Written w r t
+written w (Some e) t W =
+    let n : e ≡ size t = W.0 ∙ codes_size t in
+    let y = ap length W.1 in
+    record {
+      fits = λ l. (ap Some n, ap (λ (k : ℕ). take k w) (sym n) ∙ W.1);
+      short = λ l. absurd (omega (arith, length-take e w, codes_size t));
+    }
+written w None t W = record { fits = λ l. absurd (omega (arith, W, codes_size t)); short = λ l. refl }
 
 module _ (sy ts s : List ℕ) (S : Signature) (A : Agrees (arity_of sy) S) (p q : ℕ) (w : Solved (graph sy ts) p q s) (x : ℕ) (t : Term) (f : is_fact S t ≡ true) (l : EachVar Small t) where
-  instance :
-      (c : ℕ) → Stands ts c x t → (u : Term) → ren c t ≡ u → (cap : ℕ) (o v : List ℕ) (i e : ℕ)
-      → Writes (graph sy ts) s (node ts x) cap o v i e → Written cap o v i e (sub w.μ u)
-  instance c P u m cap o v i e W =
-      written cap o v i e (sub w.μ u)
-      (subst (λ (y : Term). Wrote cap o v i e (codes (sub w.μ y))) (tree_leaves sy ts c x t P.behind (wf_fact S sy A t f l) P.sided P.tokens ∙ m)
+  instance : (c : ℕ) → Stands ts c x t → (u : Term) → ren c t ≡ u → (v : List ℕ) (r : code.Option ℕ) → Writes (graph sy ts) s (node ts x) v r → Written v r (sub w.μ u)
+  instance c P u m v r W =
+      written v r (sub w.μ u)
+      (subst (λ (y : Term). Wrote v r (codes (sub w.μ y))) (tree_leaves sy ts c x t P.behind (wf_fact S sy A t f l) P.sided P.tokens ∙ m)
       (W (sub w.μ ((graph sy ts).tree (node ts x))) (w.reads (node ts x))))
 
   -- What is written of a fact of the first record is its instance, its variables made even.
-  pub instance_left :
-      Stands ts 0 x t → (cap : ℕ) (o v : List ℕ) (i e : ℕ) → Writes (graph sy ts) s (node ts x) cap o v i e → Written cap o v i e (sub w.μ (sub (λ y. var (2 * y)) t))
+  pub instance_left : Stands ts 0 x t → (v : List ℕ) (r : code.Option ℕ) → Writes (graph sy ts) s (node ts x) v r → Written v r (sub w.μ (sub (λ y. var (2 * y)) t))
   instance_left P = instance 0 P (sub (λ y. var (2 * y)) t) (ren_left t)
 
   -- Of the second record: its variables made odd.
-  pub instance_right :
-      Stands ts 1 x t → (cap : ℕ) (o v : List ℕ) (i e : ℕ) → Writes (graph sy ts) s (node ts x) cap o v i e → Written cap o v i e (sub w.μ (sub (λ y. var (2 * y + 1)) t))
+  pub instance_right : Stands ts 1 x t → (v : List ℕ) (r : code.Option ℕ) → Writes (graph sy ts) s (node ts x) v r → Written v r (sub w.μ (sub (λ y. var (2 * y + 1)) t))
   instance_right P = instance 1 P (ren 1 t) refl
 
 -- After Some the writer can be asked for the node n of any place x.
-pub may_write :
-    (sy : List ℕ) (T : ℕ) (a b s o : List ℕ) (p q cap i x n : ℕ) → Given T a b → Solved (graph sy (facts T a b)) p q s
-    → cap ≤ length o → i ≤ cap → x ≤ 2 * T → n ≡ node (facts T a b) x → Asked sy T (facts T a b) s cap o i n
-may_write sy T a b s o p q cap i x n G w lo li lx e =
+pub may_write : (sy : List ℕ) (T : ℕ) (a b s : List ℕ) (p q x n : ℕ) → Given T a b → Solved (graph sy (facts T a b)) p q s → x ≤ 2 * T → n ≡ node (facts T a b) x → Asked sy T (facts T a b) s n
+may_write sy T a b s p q x n G w lx e =
     let l = facts_length T a b G in
-    record {
-      lt = l;
-      ls = omega (arith, w.len, l);
-      lo = lo;
-      down = w.down;
-      ii = omega (arith, node_in sy (facts T a b) x (omega (arith, l)), l);
-      ip = li;
-      read = (_, w.reads n);
-    }
+    record { lt = l; ls = omega (arith, w.len, l); down = w.down; ii = omega (arith, node_in sy (facts T a b) x (omega (arith, l)), l); read = (_, w.reads n) }

@@ -1,6 +1,8 @@
 -- A table of classes: each node points down or at itself. Assumes nothing.
 use Prim.Native.Nat.{ℕ, zero, suc, ◌+◌, ◌≤◌, ◌<◌}
 use native.Mathlib.Omega.{arith}
+use native.Mathlib.Bridge.{le_prop}
+use mathlib.Core.HLevel.{Π_prop}
 use Rattle.std.specs.Prelude.{Bool, List, [], ◌∷◌, ◌≡◌, ◌⊎◌, ◌≢◌, length, get_or, set}
 use Rattle.std.proofs.Math.Bool.{true, false}
 use Rattle.std.proofs.Math.Path.{refl, ap, subst, sym}
@@ -18,6 +20,10 @@ Down r = (i : ℕ) → up r i ≤ i
 pub below : (r : List ℕ) → Down r → (i : ℕ) → up r i ≤ i
 unfolding Down
 below r d = d
+
+pub down_prop : (r : List ℕ) → IsProp (Down r)
+unfolding Down
+down_prop r = Π_prop λ i. le_prop
 
 -- n steps
 unfoldable pub climb : ℕ → List ℕ → ℕ → ℕ

@@ -12,3 +12,4 @@ pub mod Writer
 pub mod Whole
 pub mod Formed
 pub mod Final
+pub mod Pairs

@@ -1,6 +1,8 @@
 -- What the code's `look` asks and answers, and the laws that its proof cites. Assumes nothing.
-use Rattle.std.specs.Prelude.{ℕ, suc, ◌+◌, ◌*◌, ◌-◌, ◌≤◌, ◌<◌, Bool, true, false, List, [], ◌∷◌, map, ◌≡◌, ◌≢◌, length, get_or, set, drop}
+use Rattle.std.specs.Prelude.{ℕ, suc, ◌+◌, ◌*◌, ◌-◌, ◌≤◌, ◌<◌, Bool, true, false, List, [], ◌∷◌, map, ◌≡◌, ◌≢◌, eqb, length, get_or, set, drop}
 use Rattle.std.proofs.Common.{arith, ap, ◌∙◌, subst, sym}
+use Rattle.std.proofs.Common.{eqb-true}
+use Rattle.std.proofs.lemmas.Bool.{eqb-false}
 use Rattle.std.proofs.Math.Path.{refl}
 use Rattle.model.specs.Term.{Term}
 use Rattle.unify.specs.Forest.{Down, find}
@@ -14,14 +16,6 @@ use Rattle.unify.specs.Nodes.{node, starts_at, tok, Past, graph, args_at, args_c
 abbrev pub Found : Graph → List ℕ → List ℕ → List ℕ → ℕ → Bool → Type 0
 Found G s m k i true = Cyclic G s
 Found G s m k i false = Looked G s m k × Read G s i
-
-pub found_yes : (G : Graph) (s m k : List ℕ) (i : ℕ) (b : Bool) → b ≡ true → Found G s m k i b → Cyclic G s
-found_yes G s m k i true e h = h
-found_yes G s m k i false e h = let z : ◌≡◌ {A = ℕ} 0 1 = cc in absurd (omega arith)
-
-pub found_no : (G : Graph) (s m k : List ℕ) (i : ℕ) (b : Bool) → b ≡ false → Found G s m k i b → Looked G s m k × Read G s i
-found_no G s m k i true e h = let z : ◌≡◌ {A = ℕ} 0 1 = cc in absurd (omega arith)
-found_no G s m k i false e h = h
 
 -- what look asks
 pub record Asks (sy : List ℕ) (T : ℕ) (ts s m : List ℕ) (i : ℕ) : Type 0 where
@@ -51,18 +45,20 @@ module _ (G : Graph) (s : List ℕ) where
   pub rest_open : (m k xs : List ℕ) (a : ℕ) (us : List ℕ) → Rest G s m k xs (a ∷ us) → Open G s k a
   rest_open m k xs a us R j e = R.opens.0 j (R.looked.opens j e)
 
-module _ (sy : List ℕ) (T : ℕ) (ts s m : List ℕ) (i : ℕ) (A : Asks sy T ts s m i) where
+module _ {sy : List ℕ} {T : ℕ} {ts s m : List ℕ} {i : ℕ} (A : Asks sy T ts s m i) where
   abbrev G : Graph
   G = graph sy ts
 
   pub look_var : 2 * T ≤ find s i → Found (graph sy ts) s m m i false
   look_var v = at_variable (graph sy ts) s A.down m i A.done (let z = A.lt in omega arith)
 
-  pub look_open : (k : List ℕ) → get_or m (find s i) 0 ≡ 1 → Found (graph sy ts) s m k i true
-  look_open k e = met (graph sy ts) s A.down m i A.wide e
-
-  pub look_done : get_or m (find s i) 0 ≢ 0 → get_or m (find s i) 0 ≢ 1 → Found (graph sy ts) s m m i false
-  look_done p q = seen (graph sy ts) s A.down m i A.done p q
+  -- a node that was seen before: an open one stands inside i
+  pub look_marked : (r : ℕ) → r ≡ find s i → get_or m r 0 ≢ 0 → Found (graph sy ts) s m m i (eqb (get_or m r 0) 1)
+  look_marked r e p = go (eqb (get_or m r 0) 1) refl
+    where
+      go : (b : Bool) → eqb (get_or m r 0) 1 ≡ b → Found (graph sy ts) s m m i b
+      go true q = met (graph sy ts) s A.down m i A.wide (ap (λ (k : ℕ). get_or m k 0) (sym e) ∙ eqb-true (get_or m r 0) 1 q)
+      go false q = seen (graph sy ts) s A.down m i A.done (λ z. p (ap (λ (k : ℕ). get_or m k 0) e ∙ z)) (λ z. eqb-false (get_or m r 0) 1 q (ap (λ (k : ℕ). get_or m k 0) e ∙ z))
 
   module _ (v : find s i < 2 * T) (z : get_or m (find s i) 0 ≡ 0) where
     c : length m ≡ length ts + 128

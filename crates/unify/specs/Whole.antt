@@ -1,19 +1,21 @@
 -- What the code's `finite` and `unify` answer, and the laws that their proofs cite. Assumes nothing.
-use Rattle.std.specs.Prelude.{ℕ, suc, ◌+◌, ◌*◌, ◌-◌, ◌≤◌, ◌<◌, Bool, true, false, List, ◌∷◌, map, ◌≡◌, refl, ◌≢◌, eqb, leb, length, get_or, set, drop, Option, Some, None}
+use Rattle.std.specs.Prelude.{ℕ, suc, ◌+◌, ◌*◌, ◌-◌, ◌≤◌, ◌<◌, Bool, true, false, not, List, ◌∷◌, map, ◌≡◌, refl, ◌≢◌, eqb, leb, length, get_or, set, drop, Option, Some, None}
 use Rattle.std.proofs.Common.{arith, ap, ◌∙◌, subst, subst₂, sym, get_or-set_same, get_or-set_other, eqb-true, leb-true, leb-false}
 use Rattle.std.proofs.Math.ListN.{get_or-eq_default}
 use Rattle.std.proofs.lemmas.Bool.{eqb-false}
+use Rattle.std.proofs.lemmas.List.{get_or-replicate}
+use Rattle.std.proofs.Math.ListN.{replicate, length-replicate}
+use Rattle.std.specs.Bool.{then_some}
 use Rattle.model.specs.Term.{Term, sub}
 use Rattle.theory.specs.Basics.{no_confusion}
 use Rattle.records.specs.Symbols.{arity_of}
-use Rattle.unify.specs.Forest.{up, Down, get_d_any}
+use Rattle.unify.specs.Forest.{up, get_d_any}
 use Rattle.unify.specs.Closure.{Graph, Same, same_label, same_args}
-use Rattle.unify.specs.Inside.{Cyclic, cyclic_none, Read}
+use Rattle.unify.specs.Inside.{Cyclic, cyclic_none, Read, Done, Open, Looked}
 use Rattle.unify.specs.Solve.{Fresh, start_resp, solved, Solved}
 use Rattle.unify.specs.Nodes.{graph, node, tok, args_at, args_head, first, starts_at, sym_in}
 use Rattle.unify.specs.Facts.{facts, graph_of}
 use Rattle.unify.specs.Merge.{Answer}
-use Rattle.unify.specs.Look.{Asks, Found}
 use Rattle.unify.specs.Code.{node_sym}
 
 -- No substitution makes the two nodes equal.
@@ -63,71 +65,44 @@ own_fresh r n e h i = go (leb (length r) i) refl
     go true q = get_or-eq_default r i (leb-true (length r) i q)
     go false q = let l = leb-false (length r) i q in get_d_any r i i 0 l ∙ h i (omega arith)
 
--- the first x are 0
-unfoldable pub Zero : ℕ → List ℕ → Type 0
-Zero x r = (k : ℕ) → k < x → get_or r k 0 ≡ 0
-
-pub zero_none : (r : List ℕ) → Zero 0 r
-unfolding Zero
-zero_none r k l = absurd (omega arith)
-
-pub zero_more : (r : List ℕ) (x : ℕ) → x < length r → Zero x r → Zero (x + 1) (set r x 0)
-unfolding Zero
-zero_more r x l h k b = go (eqb k x) refl
+-- a table of nothing but 0
+pub zero_at : (r : List ℕ) (n : ℕ) → r ≡ replicate n 0 → (k : ℕ) → get_or r k 0 ≡ 0
+zero_at r n e k = ap (λ (l : List ℕ). get_or l k 0) e ∙ go (leb n k) refl
   where
-    go : (c : Bool) → eqb k x ≡ c → get_or (set r x 0) k 0 ≡ 0
-    go true e = let z = eqb-true k x e in rw z (get_or-set_same r x 0 0 l)
-    go false e = let n = eqb-false k x e in get_or-set_other r x k 0 0 n ∙ h k (omega arith)
+    go : (b : Bool) → leb n k ≡ b → get_or {A = ℕ} (replicate n 0) k 0 ≡ 0
+    go true q = get_or-eq_default (replicate n 0) 0 (let y = length-replicate {A = ℕ} n 0 in let z = leb-true n k q in omega arith)
+    go false q = get_or-replicate n k 0 0 (leb-false n k q)
 
 -- ---- marks between two walks: what is marked can be read, and nothing is open
 abbrev pub Marked : Graph → List ℕ → List ℕ → Type 0
 Marked G s m = (k : ℕ) → get_or m k 0 ≢ 0 → (get_or m k 0 ≢ 1) × Read G s k
 
--- Does the class of i stand inside its own term? Where not, i can be read.
-abbrev pub Seen : Graph → List ℕ → List ℕ → ℕ → Bool → Type 0
-Seen G s m i true = Cyclic G s
-Seen G s m i false = Marked G s m × Read G s i
+pub marked_done : (G : Graph) (s m : List ℕ) → Marked G s m → Done G s m
+marked_done G s m M k a b = (M k a).1
 
-pub marked_start : (G : Graph) (s m : List ℕ) (n : ℕ) → length m ≡ n → Zero n m → Marked G s m
-unfolding Zero
-marked_start G s m n e h k a = absurd (a (go (leb (length m) k) refl))
+pub marked_open : (G : Graph) (s m : List ℕ) (i : ℕ) → Marked G s m → Open G s m i
+marked_open G s m i M k e = absurd ((M k (λ z. (omega arith))).0 e)
+
+pub marked_next : (G : Graph) (s m k : List ℕ) → Marked G s m → Looked G s m k → Marked G s k
+marked_next G s m k M h j a = (shut, h.done j a shut)
   where
-    go : (b : Bool) → leb (length m) k ≡ b → get_or m k 0 ≡ 0
-    go true q = get_or-eq_default m 0 (leb-true (length m) k q)
-    go false q = let l = leb-false (length m) k q in h k (omega arith)
-
-pub marked_asks :
-    (sy : List ℕ) (T : ℕ) (ts s m : List ℕ) (i : ℕ) → length ts ≡ 2 * T → length s ≡ 2 * T + 128 → length m ≡ 2 * T + 128 → Down s → i < 2 * T + 128
-    → Marked (graph sy ts) s m → Asks sy T ts s m i
-marked_asks sy T ts s m i lt ls lm d l M =
-    record { lt = lt; ls = ls; lm = lm; down = d; ii = l; done = λ k a b. (M k a).1; wide = λ k e. absurd ((M k (λ z. (omega arith))).0 e) }
-
-pub marked_seen : (G : Graph) (s m k : List ℕ) (i : ℕ) (b : Bool) → Marked G s m → Found G s m k i b → Seen G s k i b
-marked_seen G s m k i true M h = h
-marked_seen G s m k i false M h = ((λ j a. (shut j, h.0.done j a (shut j))), h.1)
-  where
-    shut : (j : ℕ) → get_or k j 0 ≢ 1
-    shut j e = let y = h.0.opens j e in (M j (λ z. (omega arith))).0 y
+    shut : get_or k j 0 ≢ 1
+    shut e = let y = h.opens j e in (M j (λ z. (omega arith))).0 y
 
 -- the variables below v can be read
 pub record Far (G : Graph) (s m : List ℕ) (v : ℕ) : Type 0 where
   pub marked : Marked G s m
   pub reads : (x : ℕ) → G.places ≤ x → x < v → Read G s x
 
-pub far_start : (G : Graph) (s m : List ℕ) (n v : ℕ) → v ≡ G.places → length m ≡ n → Zero n m → Far G s m v
-far_start G s m n v p e h = record { marked = marked_start G s m n e h; reads = λ x a b. absurd (omega arith) }
+pub far_start : (G : Graph) (s m : List ℕ) (n v : ℕ) → v ≡ G.places → m ≡ replicate n 0 → Far G s m v
+far_start G s m n v p e = record { marked = λ k a. absurd (a (zero_at m n e k)); reads = λ x a b. absurd (omega arith) }
 
-pub far_next : (G : Graph) (s m k : List ℕ) (v : ℕ) (b : Bool) → b ≡ false → Far G s m v → Seen G s k v b → Far G s k (v + 1)
-far_next G s m k v true q F h = no_confusion (cc)
-far_next G s m k v false q F h = record { marked = h.0; reads = λ x a b. go x a b (eqb x v) refl }
+pub far_next : (G : Graph) (s m k : List ℕ) (v : ℕ) → Far G s m v → Looked G s m k × Read G s v → Far G s k (v + 1)
+far_next G s m k v F h = record { marked = marked_next G s m k F.marked h.0; reads = λ x a b. go x a b (eqb x v) refl }
   where
     go : (x : ℕ) → G.places ≤ x → x < v + 1 → (c : Bool) → eqb x v ≡ c → Read G s x
     go x a b true e = subst (Read G s) (sym (eqb-true x v e)) h.1
     go x a b false e = let n = eqb-false x v e in F.reads x a (omega arith)
-
-pub seen_cycle : (G : Graph) (s k : List ℕ) (v : ℕ) (b : Bool) → b ≡ true → Seen G s k v b → Cyclic G s
-seen_cycle G s k v true q h = h
-seen_cycle G s k v false q h = no_confusion (cc)
 
 -- the answer of the test of cycles
 abbrev pub Tested : Graph → List ℕ → Bool → Type 0
@@ -143,9 +118,12 @@ Apart G p q false = Unit {0}
 abbrev pub Differs : List ℕ → ℕ → List ℕ → List ℕ → ℕ → Bool → Type 0
 Differs sy T a b at r = Apart (graph_of sy T a b) (node (facts T a b) 0) (node (facts T a b) (T + at)) r
 
-pub apart_never : (G : Graph) (p q : ℕ) (b : Bool) → b ≡ true → Apart G p q b → Never G p q
-apart_never G p q true e h = h
-apart_never G p q false e h = no_confusion (cc)
+pub apart_where : (G : Graph) (p q u v : ℕ) → (u ≢ v → Never G p q) → Apart G p q (not (eqb u v))
+apart_where G p q u v h = go (eqb u v) refl
+  where
+    go : (b : Bool) → eqb u v ≡ b → Apart G p q (not b)
+    go true e = tt
+    go false e = h (eqb-false u v e)
 
 module _ (sy ts : List ℕ) where
   -- two places that hold different symbols
@@ -177,27 +155,17 @@ module _ (sy ts : List ℕ) where
 
 -- ---- the whole
 module _ (sy : List ℕ) (T : ℕ) (ts b s : List ℕ) (p q : ℕ) (lt : length ts ≡ 2 * T) (ls : length s ≡ 2 * T + 128) (fresh : Fresh b) where
-  pub whole_clash : (c : Bool) → c ≡ false → Answer (graph sy ts) b s p q c → Never (graph sy ts) p q
-  whole_clash true e h = no_confusion (cc)
-  whole_clash false e h = λ θ k. h θ (start_resp (graph sy ts) p q b fresh θ) k
+  pub whole_clash : Answer (graph sy ts) b s p q false → Never (graph sy ts) p q
+  whole_clash h θ k = h θ (start_resp (graph sy ts) p q b fresh θ) k
 
-  pub whole_down : (c : Bool) → c ≡ true → Answer (graph sy ts) b s p q c → Down s
-  whole_down true e h = h.0.down
-  whole_down false e h = no_confusion (cc)
+  whole_cycle : Answer (graph sy ts) b s p q true → Tested (graph sy ts) s false → Never (graph sy ts) p q
+  whole_cycle h t θ k = cyclic_none (graph sy ts) s t θ (h.0.forced θ (start_resp (graph sy ts) p q b fresh θ) k)
 
-  pub whole_cycle : (c : Bool) → c ≡ true → Answer (graph sy ts) b s p q c → (d : Bool) → d ≡ false → Tested (graph sy ts) s d → Never (graph sy ts) p q
-  whole_cycle true e h false f t = λ θ k. cyclic_none (graph sy ts) s t θ (h.0.forced θ (start_resp (graph sy ts) p q b fresh θ) k)
-  whole_cycle true e h true f t = no_confusion (cc)
-  whole_cycle false e h d f t = no_confusion (cc)
-
-  pub whole : (c : Bool) → c ≡ true → Answer (graph sy ts) b s p q c → (d : Bool) → d ≡ true → Tested (graph sy ts) s d → Solved (graph sy ts) p q s
-  whole true e h true f t = solved (graph sy ts) p q b fresh s h.0 h.1 (omega arith) (λ x l. t (length ts + x) (omega arith) l)
-  whole true e h false f t = no_confusion (cc)
-  whole false e h d f t = no_confusion (cc)
+  -- after the merging, the test of cycles decides
+  pub whole : (at : ℕ) → Answer (graph sy ts) b s p q true → (c : Bool) → Tested (graph sy ts) s c → Answers (graph sy ts) p q s at (then_some c at)
+  whole at h true t = (refl, solved (graph sy ts) p q b fresh s h.0 h.1 (omega arith) (λ x l. t (length ts + x) (omega arith) l))
+  whole at h false t = whole_cycle h t
 
 -- the same of nodes by other names
-pub never_at : (G : Graph) (p q x y : ℕ) → p ≡ x → q ≡ y → Never G p q → Never G x y
-never_at G p q x y e f = subst₂ (λ (i j : ℕ). Never G i j) e f
-
-pub solved_at : (G : Graph) (s : List ℕ) (p q x y : ℕ) → p ≡ x → q ≡ y → Solved G p q s → Solved G x y s
-solved_at G s p q x y e f = subst₂ (λ (i j : ℕ). Solved G i j s) e f
+pub answers_at : (G : Graph) (s : List ℕ) (at : ℕ) (u : Option ℕ) (p q x y : ℕ) → p ≡ x → q ≡ y → Answers G p q s at u → Answers G x y s at u
+answers_at G s at u p q x y e f = subst₂ (λ (i j : ℕ). Answers G i j s at u) e f

@@ -1,176 +1,137 @@
 #![tactic(auto)]
 
-ghost use Rattle.std.specs.Prelude.{◌≡◌, ℕ, ◌+◌, ◌-◌, ◌*◌, ◌≤◌, ◌<◌, min, max, length, get_or, set};
-ghost use Rattle.unify.specs.Forest.{Down, find};
+ghost use Rattle.std.specs.Prelude.{◌≡◌, ◌+◌, ◌*◌, ◌≤◌, ◌<◌, length, get_or};
+ghost use Rattle.unify.specs.Forest.{Down, down_prop, find};
 ghost use Rattle.unify.specs.Nodes.{node, Past};
-ghost use Rattle.unify.specs.Facts.{facts, graph_of, Given};
+ghost use Rattle.unify.specs.Facts.{Given};
 ghost use Rattle.unify.specs.Merge.{Answer};
-ghost use Rattle.unify.specs.Look.{Asks, Found};
+ghost use Rattle.unify.specs.Inside.{Read, Done, Open};
+ghost use Rattle.unify.specs.Look.{Found};
 ghost use Rattle.unify.specs.Solve.{Fresh};
-ghost use Rattle.unify.specs.Whole.{Zero, Marked, Seen, Tested, Differs, Unifies};
-ghost use Rattle.unify.specs.Writer.{Asked, Writes};
+ghost use Rattle.unify.specs.Whole.{Tested, Differs, Unifies};
+ghost use Rattle.unify.specs.Writer.{Writes};
 
-use records::parts::wide;
 use records::symbols::arity;
 
-/// The tokens of two records, with the table of symbols: what the unifier reads.
+// The token of the first symbol; those below it are variables.
+const FIRST_SYMBOL: u8 = 64;
+
+/// The code of the first class without a symbol; a code below it is a symbol's token.
+pub const FIRST_VARIABLE: usize = 256;
+
+// The marks of nodes in a walk. They are bytes, since a narrower type would ask more of callers, who lend the table.
+const NEW: u8 = 0;
+
+const OPEN: u8 = 1;
+
+const DONE: u8 = 2;
+
+/// Two records and the table of symbols: what the unifier reads.
 #[derive(Clone, Copy)]
 pub struct Pair<'a> {
-    /// The arities of the symbols.
+    /// The table of symbols.
     pub symbols: &'a [u8],
-    /// The record whose fact at the start unifies.
+    /// The first record: the fact at its start unifies.
     pub a: &'a [u8],
-    /// The record whose fact at a place unifies.
+    /// The second record: one of its facts unifies.
     pub b: &'a [u8],
     /// The room for tokens in each record.
     pub toks: usize,
     pub ghost given: { Given toks a.now b.now },
 }
 
-// An entry of the table of classes as a number.
-fn wide16(x: u16) -> usize
-    ensures { (result ≡ x) × (result < 65536) }
-{
-    x as usize
-}
-
-fn least(a: usize, b: usize) -> usize
-    ensures { result ≡ min a b }
-{
-    if a < b {
-        return a;
-    }
-    b
-}
-
-fn most(a: usize, b: usize) -> usize
-    ensures { result ≡ max a b }
-{
-    if a < b {
-        return b;
-    }
-    a
+/// The nodes of two records in classes, as `unify` leaves them.
+#[derive(Clone, Copy)]
+pub struct Classes<'a> {
+    /// The two records.
+    pub pair: Pair<'a>,
+    /// For each node a lower one of its class; the lowest, the root, has itself.
+    pub rep: &'a [u16],
+    pub ghost long: { length rep.now ≡ 2 * pair.toks + 128 },
+    pub ghost down: { Down rep.now } by { down_prop rep.now },
 }
 
 // The root of a node's class.
+#[tactic(auto, using(crate::specs::Code::down_at, crate::specs::Code::root_go, crate::specs::Code::root_end))]
 fn root(rep: &[u16], i: usize) -> usize
     requires { (i < length rep.now) × Down rep.now }
     ensures { (result ≡ find rep.now i) × (result < length rep.now) }
 {
     let mut x = i;
-    let mut p = wide16(rep[x]);
-    while p != x {
-        x = p;
-        p = wide16(rep[x]);
+    while usize::from(rep[x]) != x {
+        x = usize::from(rep[x]);
     }
     x
 }
 
-// The class of hi joins that of lo.
-fn link(rep: &mut [u16], hi: usize, lo: usize)
-    requires { (hi < length rep.old) × (lo < 65536) }
-    ensures { rep.new ≡ set rep.old hi lo }
-{
-    rep[hi] = lo as u16;
-}
-
-// Sets a node's mark.
-fn mark(marks: &mut [u8], r: usize, v: u8)
-    requires { r < length marks.old }
-    ensures { marks.new ≡ set marks.old r v }
-{
-    marks[r] = v;
-}
-
-// Writes one code.
-fn put(o: &mut [u16], p: usize, v: usize)
-    requires { (p < length o.old) × (v < 65536) }
-    ensures { o.new ≡ set o.old p v }
-{
-    o[p] = v as u16;
-}
-
 // Each node a class by itself.
+#[tactic(auto, using(crate::specs::Whole::own_none, crate::specs::Whole::own_more, crate::specs::Whole::own_fresh))]
 fn fresh(rep: &mut [u16])
     requires { length rep.old ≤ 65536 }
     ensures { Fresh rep.new }
 {
-    let mut x: usize = 0;
-    while x < rep.len() {
-        rep[x] = x as u16;
-        x += 1;
-    }
-}
-
-// No node is marked.
-fn clear(marks: &mut [u8])
-    ensures { Zero (length marks.new) marks.new }
-{
-    let mut x: usize = 0;
-    while x < marks.len() {
-        marks[x] = 0;
-        x += 1;
+    for (x, up) in rep.iter_mut().enumerate() {
+        *up = x as u16;
     }
 }
 
 impl<'a> Pair<'a> {
-    // The token at a place: those of a come first, then those of b; 0 past the end.
+    ghost use Rattle.unify.specs.Pairs.{tokens_of, nodes_of};
+
+    /// The token at a place: those of a come first, then those of b; 0 past the end.
+    #[tactic(auto, using(crate::specs::Facts::fact_left, crate::specs::Facts::fact_right, crate::specs::Facts::fact_past))]
     pub fn token(&self, p: usize) -> u8
-        ensures { result ≡ get_or (facts self.now.toks self.now.a.now self.now.b.now) p 0 }
+        ensures { result ≡ get_or (tokens_of self.now) p 0 }
     {
         if p < self.toks {
-            return self.a[p + 2];
+            self.a[p + 2]
+        } else if p - self.toks < self.toks {
+            self.b[p - self.toks + 2]
+        } else {
+            0
         }
-        if p - self.toks < self.toks {
-            return self.b[p - self.toks + 2];
-        }
-        0
     }
 
-    // A variable is one node wherever it stands on its side; a symbol is a node by its place.
+    /// The node at a place: a variable is one node wherever it stands on its side; a symbol is a node by its place.
+    #[tactic(auto, using(crate::specs::Code::node_left, crate::specs::Code::node_right, crate::specs::Code::node_sym, crate::specs::Pairs::tokens_long))]
     pub fn node_at(&self, p: usize) -> usize
         requires { p ≤ 2 * self.now.toks }
-        ensures { (result ≡ node (facts self.now.toks self.now.a.now self.now.b.now) p) × (result < 2 * self.now.toks + 128) }
+        ensures { (result ≡ node (tokens_of self.now) p) × (result < 2 * self.now.toks + 128) }
     {
-        let x = wide(self.token(p));
-        if x < 64 {
-            if p < self.toks {
-                return 2 * self.toks + 2 * x;
-            }
-            return 2 * self.toks + 2 * x + 1;
+        let x = self.token(p);
+        if FIRST_SYMBOL <= x {
+            return p;
         }
-        p
+        let v = 2 * self.toks + 2 * usize::from(x);
+        if p < self.toks { v } else { v + 1 }
     }
 
     // The place past the term at p.
+    #[tactic(auto, using(crate::specs::Code::past_again, crate::specs::Pairs::tokens_long))]
     fn past(&self, p: usize) -> usize
         requires { p ≤ 2 * self.now.toks }
-        ensures { Past self.now.symbols.now (facts self.now.toks self.now.a.now self.now.b.now) p result }
+        ensures { Past self.now.symbols.now (tokens_of self.now) p result }
     {
         let end = 2 * self.toks;
-        let mut at: usize = p;
         let mut need: usize = 1;
-        while at < end {
+        for at in p..end {
             if need == 0 {
                 return at;
             }
             need = need - 1 + arity(self.symbols, self.token(at));
-            at += 1;
         }
-        at
+        end
     }
 
     // Do two facts begin with different symbols, or their first arguments? Then nothing unifies them.
+    #[tactic(auto, using(crate::specs::Whole::heads_differ, crate::specs::Whole::firsts_differ, crate::specs::Whole::apart_where))]
     fn apart(&self, at: usize) -> bool
         requires { at ≤ self.now.toks }
         ensures { Differs self.now.symbols.now self.now.toks self.now.a.now self.now.b.now at result }
     {
         let x = self.token(0);
         let y = self.token(self.toks + at);
-        if x < 64 {
-            return false;
-        }
-        if y < 64 {
+        if x < FIRST_SYMBOL || y < FIRST_SYMBOL {
             return false;
         }
         if x != y {
@@ -181,31 +142,27 @@ impl<'a> Pair<'a> {
         }
         let u = self.token(1);
         let v = self.token(self.toks + at + 1);
-        if u < 64 {
+        if u < FIRST_SYMBOL || v < FIRST_SYMBOL {
             return false;
         }
-        if v < 64 {
-            return false;
-        }
-        if u != v {
-            return true;
-        }
-        false
+        u != v
     }
 
     // Unites the classes of two nodes, and of their arguments in pairs; false where two symbols differ.
     fn merge(&self, rep: &mut [u16], i: usize, j: usize) -> bool
-        requires { (length rep.old ≡ 2 * self.now.toks + 128) × (Down rep.old × ((i < 2 * self.now.toks + 128) × (j < 2 * self.now.toks + 128))) }
-        ensures { Answer (graph_of self.now.symbols.now self.now.toks self.now.a.now self.now.b.now) rep.old rep.new i j result }
+        requires long { length rep.old ≡ 2 * self.now.toks + 128 }
+        requires down { Down rep.old }
+        requires nodes { (i < 2 * self.now.toks + 128) × (j < 2 * self.now.toks + 128) }
+        ensures { Answer (nodes_of self.now) rep.old rep.new i j result }
     {
         let r = root(rep, i);
         let s = root(rep, j);
         if r == s {
             return true;
         }
-        let lo = least(r, s);
-        let hi = most(r, s);
-        link(rep, hi, lo);
+        let lo = r.min(s);
+        let hi = r.max(s);
+        rep[hi] = lo as u16;
         if 2 * self.toks <= hi {
             return true;
         }
@@ -213,11 +170,9 @@ impl<'a> Pair<'a> {
         if x != self.token(hi) {
             return false;
         }
-        let n = arity(self.symbols, x);
         let mut p = lo + 1;
         let mut q = hi + 1;
-        let mut k: usize = 0;
-        while k < n {
+        for _ in 0..arity(self.symbols, x) {
             let u = self.node_at(p);
             let v = self.node_at(q);
             if !self.merge(rep, u, v) {
@@ -225,70 +180,15 @@ impl<'a> Pair<'a> {
             }
             p = self.past(p);
             q = self.past(q);
-            k += 1;
         }
         true
     }
 
-    // Does an open class stand inside the node i? Marks: 0 new, 1 open, 2 done. Where not, all of i is done.
-    fn look(&self, rep: &[u16], marks: &mut [u8], i: usize) -> bool
-        requires { Asks self.now.symbols.now self.now.toks (facts self.now.toks self.now.a.now self.now.b.now) rep.now marks.old i }
-        ensures { Found (graph_of self.now.symbols.now self.now.toks self.now.a.now self.now.b.now) rep.now marks.old marks.new i result }
-    {
-        let r = root(rep, i);
-        if 2 * self.toks <= r {
-            return false;
-        }
-        let v = wide(marks[r]);
-        if v == 1 {
-            return true;
-        }
-        if v != 0 {
-            return false;
-        }
-        mark(marks, r, 1);
-        let n = arity(self.symbols, self.token(r));
-        let mut p = r + 1;
-        let mut k: usize = 0;
-        while k < n {
-            if self.look(rep, marks, self.node_at(p)) {
-                return true;
-            }
-            p = self.past(p);
-            k += 1;
-        }
-        mark(marks, r, 2);
-        false
-    }
-
-    // Does a class stand inside its own term, somewhere in the node i?
-    fn inside(&self, rep: &[u16], marks: &mut [u8], i: usize) -> bool
-        requires { (length rep.now ≡ 2 * self.now.toks + 128) × ((length marks.old ≡ 2 * self.now.toks + 128) × (Down rep.now × ((i < 2 * self.now.toks + 128) × Marked (graph_of self.now.symbols.now self.now.toks self.now.a.now self.now.b.now) rep.now marks.old))) }
-        ensures { Seen (graph_of self.now.symbols.now self.now.toks self.now.a.now self.now.b.now) rep.now marks.new i result }
-    {
-        self.look(rep, marks, i)
-    }
-
-    // Does no variable stand inside its own term?
-    fn finite(&self, rep: &[u16], marks: &mut [u8]) -> bool
-        requires { (length rep.now ≡ 2 * self.now.toks + 128) × ((length marks.old ≡ 2 * self.now.toks + 128) × Down rep.now) }
-        ensures { Tested (graph_of self.now.symbols.now self.now.toks self.now.a.now self.now.b.now) rep.now result }
-    {
-        clear(marks);
-        let end = 2 * self.toks + 128;
-        let mut v = 2 * self.toks;
-        while v < end {
-            if self.inside(rep, marks, v) {
-                return false;
-            }
-            v += 1;
-        }
-        true
-    }
-
-    // Unifies the fact at the start of a with the one at the place `at` of b. Where they do, `rep` holds the classes of a most general unifier.
+    /// Unifies the fact at the start of a with the one at the place `at` of b, and returns that place.
+    /// Where they unify, `rep` holds the classes of a most general unifier.
     pub fn unify(&self, at: usize, rep: &mut [u16], marks: &mut [u8]) -> Option<usize>
-        requires { (length rep.old ≡ 2 * self.now.toks + 128) × ((length marks.old ≡ 2 * self.now.toks + 128) × (at ≤ self.now.toks)) }
+        requires rooms { (length rep.old ≡ 2 * self.now.toks + 128) × (length marks.old ≡ 2 * self.now.toks + 128) }
+        requires place { at ≤ self.now.toks }
         ensures { Unifies self.now.symbols.now self.now.toks self.now.a.now self.now.b.now at rep.new result }
     {
         if self.apart(at) {
@@ -300,41 +200,79 @@ impl<'a> Pair<'a> {
         if !self.merge(rep, i, j) {
             return None;
         }
-        if !self.finite(rep, marks) {
-            return None;
+        let classes = Classes { pair: *self, rep };
+        classes.finite(marks).then_some(at)
+    }
+}
+
+impl<'a> Classes<'a> {
+    ghost use Rattle.unify.specs.Pairs.{tokens_of, nodes_of};
+
+    // Does an open class stand inside the node i? Where not, all of i is done.
+    fn look(&self, marks: &mut [u8], i: usize) -> bool
+        requires long { length marks.old ≡ 2 * self.now.pair.toks + 128 }
+        requires node { i < 2 * self.now.pair.toks + 128 }
+        requires done { Done (nodes_of self.now.pair) self.now.rep.now marks.old }
+        requires opened { Open (nodes_of self.now.pair) self.now.rep.now marks.old i }
+        ensures { Found (nodes_of self.now.pair) self.now.rep.now marks.old marks.new i result }
+    {
+        let r = root(self.rep, i);
+        if 2 * self.pair.toks <= r {
+            return false;
         }
-        Some(at)
+        if marks[r] != NEW {
+            return marks[r] == OPEN;
+        }
+        marks[r] = OPEN;
+        let mut p = r + 1;
+        for _ in 0..arity(self.pair.symbols, self.pair.token(r)) {
+            if self.look(marks, self.pair.node_at(p)) {
+                return true;
+            }
+            p = self.pair.past(p);
+        }
+        marks[r] = DONE;
+        false
     }
 
-    // Writes the codes of the term of the node i from p on, and returns the place behind them; cap + 1 where that is past cap.
-    // The code of a symbol is its token, that of a variable's class 256 and more.
-    pub fn write(&self, rep: &[u16], o: &mut [u16], p: usize, cap: usize, i: usize) -> usize
-        requires { Asked self.now.symbols.now self.now.toks (facts self.now.toks self.now.a.now self.now.b.now) rep.now cap o.old p i }
-        ensures { Writes (graph_of self.now.symbols.now self.now.toks self.now.a.now self.now.b.now) rep.now i cap o.old o.new p result }
+    // Does no variable stand inside its own term?
+    #[tactic(auto, using(crate::specs::Pairs::tokens_long))]
+    fn finite(&self, marks: &mut [u8]) -> bool
+        requires { length marks.old ≡ 2 * self.now.pair.toks + 128 }
+        ensures { Tested (nodes_of self.now.pair) self.now.rep.now result }
     {
-        if cap <= p {
-            return cap + 1;
-        }
-        let r = root(rep, i);
-        if 2 * self.toks <= r {
-            put(o, p, r - 2 * self.toks + 256);
-            return p + 1;
-        }
-        let x = self.token(r);
-        put(o, p, wide(x));
-        let n = arity(self.symbols, x);
-        let mut e = p + 1;
-        let mut q = r + 1;
-        let mut k: usize = 0;
-        while k < n {
-            let f = self.write(rep, o, e, cap, self.node_at(q));
-            if cap < f {
-                return cap + 1;
+        marks.fill(NEW);
+        for v in 2 * self.pair.toks..self.rep.len() {
+            if self.look(marks, v) {
+                return false;
             }
-            e = f;
-            q = self.past(q);
-            k += 1;
         }
-        e
+        true
+    }
+
+    /// Writes the codes of the term of the node i, and returns their number; `None` where `out` has no room for them.
+    /// The code of a symbol is its token, that of a variable's class `FIRST_VARIABLE` and more.
+    pub fn write(&self, out: &mut [u16], i: usize) -> Option<usize>
+        requires node { i < 2 * self.now.pair.toks + 128 }
+        requires read { Read (nodes_of self.now.pair) self.now.rep.now i }
+        ensures { Writes (nodes_of self.now.pair) self.now.rep.now i out.new result }
+    {
+        if out.is_empty() {
+            return None;
+        }
+        let r = root(self.rep, i);
+        if 2 * self.pair.toks <= r {
+            out[0] = (r - 2 * self.pair.toks + FIRST_VARIABLE) as u16;
+            return Some(1);
+        }
+        let x = self.pair.token(r);
+        out[0] = u16::from(x);
+        let mut len = 1;
+        let mut p = r + 1;
+        for _ in 0..arity(self.pair.symbols, x) {
+            len += self.write(&mut out[len..], self.pair.node_at(p))?;
+            p = self.pair.past(p);
+        }
+        Some(len)
     }
 }
