@@ -1,9 +1,10 @@
 -- The laws of Built at a draft: what the steps of the code leave. Assumes nothing.
-use Rattle.std.proofs.Common.{ℕ, ◌+◌, ◌-◌, ◌*◌, ◌≤◌, ◌<◌, ◌≡◌, Bool, true, false, List, [], ◌∷◌, ◌++◌, length, take, drop, set, get_or, refl, ap, sym, subst, arith, ◌∙◌, Result, Ok, Err}
+use Rattle.std.proofs.Common.{ℕ, ◌+◌, ◌-◌, ◌*◌, ◌≤◌, ◌<◌, ◌≡◌, Bool, true, false, List, [], ◌∷◌, ◌++◌, length, take, drop, set, get_or, refl, ap, sym, subst, arith, ◌∙◌, Result, Ok, Err, Option, Some, None}
 use Rattle.std.specs.Prelude.{All}
 use Rattle.records.specs.Tokens.{span}
 use Rattle.records.specs.Symbols.{arity_of}
 use Rattle.records.specs.Rules.{tokens_of}
+use borrow.Rule.Slice.PartMut.{put_mid}
 use Rattle.unify.specs.Nodes.{graph, node_in}
 use Rattle.unify.specs.Facts.{facts_length}
 use Rattle.unify.specs.Writer.{Writes}
@@ -11,7 +12,7 @@ use Rattle.combine.specs.declared.Draft.{Draft}
 use Rattle.combine.specs.declared.Instances.{Instances}
 use Rattle.combine.specs.declared.TooLarge.{TooLarge}
 use Rattle.combine.specs.Copies.{Says, Copy, has_copy}
-use Rattle.combine.specs.Built.{Built, Over, start_long, start_fits, add_long, add_grows, copy_here, copy_before, add_copy, add_large, add_many, add_kept}
+use Rattle.combine.specs.Built.{Built, Over, start_long, start_fits, add_long, copy_here, copy_short, copy_before, add_copy, add_large, add_many, add_kept}
 use Rattle.combine.specs.Draft.{both_of, node_of, side_of, HoldsIn, Holds, LeavesIn, Leaves, IsSameRoom, IsWritten}
 use Rattle.combine.specs.Places.{visits, Along, along_start, along_skip, along_went, along_over, along_end, visit_skip, visit_node, visit_none}
 use Rattle.combine.specs.Settle.{Settled}
@@ -19,75 +20,82 @@ use Rattle.combine.proofs.Laws.{has_copy_says}
 
 -- The facts of the nodes ns make too large a rule.
 abbrev pub TooMuchIn : Instances → ℕ → List ℕ → Type 0
-TooMuchIn of hyps ns = Over of.pair.symbols.now (both_of of) of.rep.now of.pair.toks hyps ns
+TooMuchIn of hyps ns = Over of.classes.pair.symbols.now (both_of of) of.classes.rep.now of.classes.pair.toks hyps ns
 
 abbrev pub TooMuch : Draft → List ℕ → Type 0
 TooMuch d ns = TooMuchIn d.of (length d.starts.now) ns
 
 -- The state of a draft whose text, starts, end and count are these.
 abbrev pub HoldsAt : Draft → List ℕ → List ℕ → ℕ → ℕ → List ℕ → Type 0
-HoldsAt d text starts e n ns = Built d.of.pair.symbols.now (both_of d.of) d.of.rep.now d.of.pair.toks (length d.starts.now) text starts e n ns
+HoldsAt d text starts e n ns = Built d.of.classes.pair.symbols.now (both_of d.of) d.of.classes.rep.now d.of.classes.pair.toks (length d.starts.now) text starts e n ns
 
-module _ (d : Draft) (place : ℕ) (l : place ≤ 2 * d.of.pair.toks) (o' : List ℕ) where
+module _ (d : Draft) (place : ℕ) (l : place ≤ 2 * d.of.classes.pair.toks) (w : List ℕ) where
   abbrev sy : List ℕ
-  sy = d.of.pair.symbols.now
+  sy = d.of.classes.pair.symbols.now
 
   abbrev T : ℕ
-  T = d.of.pair.toks
+  T = d.of.classes.pair.toks
 
   abbrev a : List ℕ
-  a = d.of.pair.a.now
+  a = d.of.classes.pair.a.now
 
   abbrev b : List ℕ
-  b = d.of.pair.b.now
+  b = d.of.classes.pair.b.now
 
   abbrev s : List ℕ
-  s = d.of.rep.now
+  s = d.of.classes.rep.now
+
+  -- what writing the instance at the part w of the text answers
+  abbrev pub Answers : Option ℕ → Type 0
+  Answers r = Writes (graph sy (both_of d.of)) s (node_of d.of place) w r
 
   small : node_of d.of place < 2 * T + 128
-  small = let z = facts_length T a b d.of.pair.given in omega (arith, node_in sy (both_of d.of) place (omega arith))
+  small = let z = facts_length T a b d.of.classes.pair.given in omega (arith, node_in sy (both_of d.of) place (omega arith))
 
   -- the conclusion
-  module _ (f : ℕ) (W : Writes (graph sy (both_of d.of)) s (node_of d.of place) T d.text.now o' 0 f) where
-    pub begun_over : T < f → TooMuch d (node_of d.of place ∷ [])
-    begun_over g = start_long sy T a b s d.of.site d.text.now o' (node_of d.of place) f small W g (length d.starts.now)
+  module _ (room : length w ≡ T) where
+    pub begun_over : Answers None → TooMuch d (node_of d.of place ∷ [])
+    begun_over W = start_long sy T a b s d.of.site (node_of d.of place) small d.text.now w room W (length d.starts.now)
 
-    pub begun : f ≤ T → HoldsAt d o' d.starts.now f 0 (node_of d.of place ∷ [])
-    begun g = start_fits sy T a b s d.of.site d.text.now o' (node_of d.of place) f small W g (length d.starts.now) d.starts.now
+    pub begun : (k : ℕ) → Answers (Some k) → HoldsAt d (put_mid 0 T d.text.now w) d.starts.now k 0 (node_of d.of place ∷ [])
+    begun k W = start_fits sy T a b s d.of.site (node_of d.of place) small d.text.now w room k W (length d.starts.now) d.starts.now
 
   -- a hypothesis
-  module _ (f : ℕ) (W : Writes (graph sy (both_of d.of)) s (node_of d.of place) (d.end + T) d.text.now o' d.end f) (ns : List ℕ) (B : Holds d ns) where
+  module _ (room : length w ≡ T) (ns : List ℕ) (B : Holds d ns) where
     abbrev more : List ℕ
     more = ns ++ (node_of d.of place ∷ [])
 
-    pub too_long : d.end + T < f → TooMuch d more
-    too_long g = add_long sy T (length d.starts.now) a b s d.of.site d.text.now o' d.starts.now d.end d.count (node_of d.of place) f small W ns B g
+    pub too_long : Answers None → TooMuch d more
+    too_long W = add_long sy T (length d.starts.now) a b s d.of.site d.text.now w d.starts.now d.end d.count (node_of d.of place) small room ns B W
 
-    module _ (g : f ≤ d.end + T) where
-      pub grows : d.end ≤ f
-      grows = add_grows sy T (length d.starts.now) a b s d.of.site d.text.now o' d.starts.now d.end d.count (node_of d.of place) f small W ns B g
+    module _ (m k : ℕ) (W : Answers (Some k)) where
+      abbrev o' : List ℕ
+      o' = put_mid d.end m d.text.now w
 
-      pub here : length o' ≡ length d.text.now → d.end + (f - d.end) ≤ length o'
-      here e = copy_here sy T (length d.starts.now) a b s d.of.site d.text.now o' d.starts.now d.end d.count (node_of d.of place) f small W ns B g (e ∙ d.space)
+      pub here : d.end + k ≤ length o'
+      here = copy_here sy T (length d.starts.now) a b s d.of.site d.text.now w d.starts.now d.end d.count (node_of d.of place) small room ns B m k W d.space
+
+      pub short : k ≤ T
+      short = copy_short sy T (length d.starts.now) a b s d.of.site d.text.now w d.starts.now d.end d.count (node_of d.of place) small room ns B m k W d.space
 
       pub before : All (λ x. x ≤ d.end) (take d.count d.starts.now)
-      before = copy_before sy T (length d.starts.now) a b s d.of.site d.text.now o' d.starts.now d.end d.count (node_of d.of place) f small W ns B g B.few
+      before = copy_before sy T (length d.starts.now) a b s d.of.site d.text.now w d.starts.now d.end d.count (node_of d.of place) small room ns B m k W d.space B.few
 
-      module _ (c : Bool) (h : c ≡ has_copy o' (take d.count d.starts.now) d.end (f - d.end)) where
-        abbrev says : Says (Copy o' d.starts.now d.count d.end (f - d.end)) c
-        says = has_copy_says o' d.starts.now d.count d.end (f - d.end) B.few c h
+      module _ (c : Bool) (h : c ≡ has_copy o' (take d.count d.starts.now) d.end k) where
+        abbrev says : Says (Copy o' d.starts.now d.count d.end k) c
+        says = has_copy_says o' d.starts.now d.count d.end k B.few c h
 
         pub copied : c ≡ true → HoldsAt d o' d.starts.now d.end d.count more
-        copied q = add_copy sy T (length d.starts.now) a b s d.of.site d.text.now o' d.starts.now d.end d.count (node_of d.of place) f small W ns B g c q says
+        copied q = add_copy sy T (length d.starts.now) a b s d.of.site d.text.now w d.starts.now d.end d.count (node_of d.of place) small room ns B m k W d.space c q says
 
-        pub too_large : c ≡ false → T < f → TooMuch d more
-        too_large q k = add_large sy T (length d.starts.now) a b s d.of.site d.text.now o' d.starts.now d.end d.count (node_of d.of place) f small W ns B g c q says k
+        pub too_large : c ≡ false → T < d.end + k → TooMuch d more
+        too_large q g = add_large sy T (length d.starts.now) a b s d.of.site d.text.now w d.starts.now d.end d.count (node_of d.of place) small room ns B m k W d.space c q says g
 
         pub too_many : c ≡ false → length d.starts.now ≤ d.count → TooMuch d more
-        too_many q k = add_many sy T (length d.starts.now) a b s d.of.site d.text.now o' d.starts.now d.end d.count (node_of d.of place) f small W ns B g c q says k
+        too_many q g = add_many sy T (length d.starts.now) a b s d.of.site d.text.now w d.starts.now d.end d.count (node_of d.of place) small room ns B m k W d.space c q says g
 
-        pub kept : c ≡ false → f ≤ T → d.count < length d.starts.now → HoldsAt d o' (set d.starts.now d.count d.end) f (d.count + 1) more
-        kept q k m = add_kept sy T (length d.starts.now) a b s d.of.site d.text.now o' d.starts.now d.end d.count (node_of d.of place) f small W ns B g c q says k m (omega arith) (set d.starts.now d.count d.end) refl
+        pub kept : c ≡ false → d.end + k ≤ T → d.count < length d.starts.now → HoldsAt d o' (set d.starts.now d.count d.end) (d.end + k) (d.count + 1) more
+        kept q g h' = add_kept sy T (length d.starts.now) a b s d.of.site d.text.now w d.starts.now d.end d.count (node_of d.of place) small room ns B m k W d.space c q says g h' (omega arith) (set d.starts.now d.count d.end) refl
 
 -- ---- the room stays
 module _ (old new : Draft) (same : IsSameRoom old new) where
@@ -108,58 +116,58 @@ same_room d e f p q = (q.0 ∙ p.0, q.1 ∙ p.1)
 -- ---- the hypotheses of a record, one after another
 module _ (of : Instances) (hyps : ℕ) (rec : List ℕ) (base skip : ℕ) where
   abbrev ar : ℕ → ℕ
-  ar = arity_of of.pair.symbols.now
+  ar = arity_of of.classes.pair.symbols.now
 
   abbrev rest : ℕ → ℕ → List ℕ
   rest k at = visits ar (both_of of) (tokens_of rec) base skip (get_or rec 0 0 - k) at
 
   -- k of them went in, and the next stands at a place
   abbrev pub Going : Draft → ℕ → ℕ → List ℕ → Type 0
-  Going d k at ns = Along of.pair.symbols.now (both_of of) of.rep.now of.pair.toks hyps d.text.now d.starts.now d.end d.count (side_of of rec base skip) (rest k at) ns
+  Going d k at ns = Along of.classes.pair.symbols.now (both_of of) of.classes.rep.now of.classes.pair.toks hyps d.text.now d.starts.now d.end d.count (side_of of rec base skip) (rest k at) ns
 
   pub going_start : (d : Draft) (at : ℕ) → at ≡ span ar 1 (tokens_of rec) → (ns : List ℕ) → HoldsIn of hyps d ns → Going d 0 at ns
   going_start d at e ns h =
-      along_start of.pair.symbols.now (both_of of) of.rep.now of.pair.toks hyps d.text.now d.starts.now d.end d.count (side_of of rec base skip) (rest 0 at) ns
+      along_start of.classes.pair.symbols.now (both_of of) of.classes.rep.now of.classes.pair.toks hyps d.text.now d.starts.now d.end d.count (side_of of rec base skip) (rest 0 at) ns
       (let z : get_or rec 0 0 - 0 ≡ get_or rec 0 0 = omega arith in ap (λ (m : ℕ). visits ar (both_of of) (tokens_of rec) base skip m (span ar 1 (tokens_of rec))) (sym z) ∙ ap (λ (m : ℕ). rest 0 m) (sym e)) h
 
   pub going_end : (d : Draft) (k at : ℕ) → get_or rec 0 0 ≤ k → (ns : List ℕ) → Going d k at ns → HoldsIn of hyps d (ns ++ side_of of rec base skip)
   going_end d k at l ns g =
-      along_end of.pair.symbols.now (both_of of) of.rep.now of.pair.toks hyps d.text.now d.starts.now d.end d.count (side_of of rec base skip) (rest k at) ns
+      along_end of.classes.pair.symbols.now (both_of of) of.classes.rep.now of.classes.pair.toks hyps d.text.now d.starts.now d.end d.count (side_of of rec base skip) (rest k at) ns
       (visit_none ar (both_of of) (tokens_of rec) base skip (get_or rec 0 0) k at l) g
 
   module _ (d : Draft) (k at w : ℕ) (l : k < get_or rec 0 0) (e : w ≡ span ar 1 (drop at (tokens_of rec))) (ns : List ℕ) (g : Going d k at ns) where
     pub going_skip : base + at ≡ skip → Going d (k + 1) (at + w) ns
     going_skip h =
-        along_skip of.pair.symbols.now (both_of of) of.rep.now of.pair.toks hyps d.text.now d.starts.now d.end d.count (side_of of rec base skip) (rest k at) (rest (k + 1) (at + w)) ns
+        along_skip of.classes.pair.symbols.now (both_of of) of.classes.rep.now of.classes.pair.toks hyps d.text.now d.starts.now d.end d.count (side_of of rec base skip) (rest k at) (rest (k + 1) (at + w)) ns
         (visit_skip ar (both_of of) (tokens_of rec) base skip (get_or rec 0 0) k at w (base + at) l e refl h) g
 
     module _ (h : base + at ≡ skip → ⊥) (d' : Draft) (r : Result (Unit {0}) TooLarge) (R : (ms : List ℕ) → HoldsIn of hyps d ms → LeavesIn of hyps d' (ms ++ (node_of of (base + at) ∷ [])) r) where
       pub going_on : (x : Unit {0}) → r ≡ Ok x → Going d' (k + 1) (at + w) ns
       going_on x q =
-          along_went of.pair.symbols.now (both_of of) of.rep.now of.pair.toks hyps d.text.now d'.text.now d.starts.now d'.starts.now d.end d.count d'.end d'.count (side_of of rec base skip) (rest k at) (rest (k + 1) (at + w)) ns (node_of of (base + at))
+          along_went of.classes.pair.symbols.now (both_of of) of.classes.rep.now of.classes.pair.toks hyps d.text.now d'.text.now d.starts.now d'.starts.now d.end d.count d'.end d'.count (side_of of rec base skip) (rest k at) (rest (k + 1) (at + w)) ns (node_of of (base + at))
           (visit_node ar (both_of of) (tokens_of rec) base skip (get_or rec 0 0) k at w (base + at) l e refl h) g r R x q
 
       pub going_over : (x : TooLarge) → r ≡ Err x → TooMuchIn of hyps (ns ++ side_of of rec base skip)
       going_over x q =
-          along_over of.pair.symbols.now (both_of of) of.rep.now of.pair.toks hyps d.text.now d'.text.now d.starts.now d'.starts.now d.end d.count d'.end d'.count (side_of of rec base skip) (rest k at) (rest (k + 1) (at + w)) ns (node_of of (base + at))
+          along_over of.classes.pair.symbols.now (both_of of) of.classes.rep.now of.classes.pair.toks hyps d.text.now d'.text.now d.starts.now d'.starts.now d.end d.count d'.end d'.count (side_of of rec base skip) (rest k at) (rest (k + 1) (at + w)) ns (node_of of (base + at))
           (visit_node ar (both_of of) (tokens_of rec) base skip (get_or rec 0 0) k at w (base + at) l e refl h) g r R of.site.reads x q
 
 -- ---- what was written, by the records and the room that the draft began with
 pub written_in : (d : Draft) (of : Instances) (hyps : ℕ) → d.of ≡ of → length d.starts.now ≡ hyps → (f : Instances → List ℕ) (vars : ℕ) (old new : List ℕ) (ok : Bool)
-    → ((ns : List ℕ) → Holds d ns → IsWritten d vars old new ns ok) → HoldsIn of hyps d (f of) → Settled of.pair.symbols.now (both_of of) of.rep.now of.pair.toks hyps vars old new (f of) ok
+    → ((ns : List ℕ) → Holds d ns → IsWritten d vars old new ns ok) → HoldsIn of hyps d (f of) → Settled of.classes.pair.symbols.now (both_of of) of.classes.rep.now of.classes.pair.toks hyps vars old new (f of) ok
 written_in d of hyps e l f vars old new ok h =
-    subst (λ (n : ℕ). HoldsIn of n d (f of) → Settled of.pair.symbols.now (both_of of) of.rep.now of.pair.toks n vars old new (f of) ok) l
-    (subst (λ (x : Instances). HoldsIn x (length d.starts.now) d (f x) → Settled x.pair.symbols.now (both_of x) x.rep.now x.pair.toks (length d.starts.now) vars old new (f x) ok) e (h (f d.of)))
+    subst (λ (n : ℕ). HoldsIn of n d (f of) → Settled of.classes.pair.symbols.now (both_of of) of.classes.rep.now of.classes.pair.toks n vars old new (f of) ok) l
+    (subst (λ (x : Instances). HoldsIn x (length d.starts.now) d (f x) → Settled x.classes.pair.symbols.now (both_of x) x.classes.rep.now x.classes.pair.toks (length d.starts.now) vars old new (f x) ok) e (h (f d.of)))
 
 -- ---- what is said of an instance's parts
-pub at_parts : (of : Instances) (sy : List ℕ) (T : ℕ) (a b s : List ℕ) → of.pair.symbols.now ≡ sy → of.pair.a.now ≡ a → of.pair.b.now ≡ b → of.pair.toks ≡ T → of.rep.now ≡ s
-    → (P : List ℕ → ℕ → List ℕ → List ℕ → List ℕ → Type 0) → P of.pair.symbols.now of.pair.toks of.pair.a.now of.pair.b.now of.rep.now → P sy T a b s
+pub at_parts : (of : Instances) (sy : List ℕ) (T : ℕ) (a b s : List ℕ) → of.classes.pair.symbols.now ≡ sy → of.classes.pair.a.now ≡ a → of.classes.pair.b.now ≡ b → of.classes.pair.toks ≡ T → of.classes.rep.now ≡ s
+    → (P : List ℕ → ℕ → List ℕ → List ℕ → List ℕ → Type 0) → P of.classes.pair.symbols.now of.classes.pair.toks of.classes.pair.a.now of.classes.pair.b.now of.classes.rep.now → P sy T a b s
 at_parts of sy T a b s ey ea eb et es P h =
     subst (λ (x : List ℕ). P sy T a b x) es
     (
-    subst (λ (x : ℕ). P sy x a b of.rep.now) et
+    subst (λ (x : ℕ). P sy x a b of.classes.rep.now) et
     (
-    subst (λ (x : List ℕ). P sy of.pair.toks a x of.rep.now) eb
-    (subst (λ (x : List ℕ). P sy of.pair.toks x of.pair.b.now of.rep.now) ea (subst (λ (x : List ℕ). P x of.pair.toks of.pair.a.now of.pair.b.now of.rep.now) ey h))
+    subst (λ (x : List ℕ). P sy of.classes.pair.toks a x of.classes.rep.now) eb
+    (subst (λ (x : List ℕ). P sy of.classes.pair.toks x of.classes.pair.b.now of.classes.rep.now) ea (subst (λ (x : List ℕ). P x of.classes.pair.toks of.classes.pair.a.now of.classes.pair.b.now of.classes.rep.now) ey h))
     )
     )

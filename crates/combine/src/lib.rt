@@ -1,6 +1,7 @@
 #![tactic(auto)]
 
 ghost use Rattle.std.specs.Prelude.{◌≡◌, List, [], ◌∷◌, ◌++◌, ℕ, ◌+◌, ◌-◌, ◌*◌, ◌≤◌, ◌<◌, length, take, get_or, is_ok, All};
+ghost use Rattle.std.specs.Result.{result_ok};
 ghost use Rattle.std.specs.Int.Count.{count_trailing_zeros};
 ghost use Rattle.model.specs.Term.{Term};
 ghost use Rattle.model.specs.Rule.{Rule};
@@ -18,7 +19,7 @@ ghost use Rattle.combine.specs.Final.{Combinable, Combines, CombinationIs};
 
 use records::rules::tokens;
 use terms::{fact_start, span, with};
-use unify::Pair;
+use unify::{Classes, FIRST_VARIABLE, Pair};
 
 /// The rule does not fit: more hypotheses, tokens or variables than allowed.
 #[derive(Clone, Copy, Debug, PartialEq, Eq)]
@@ -27,9 +28,8 @@ pub struct TooLarge;
 // Two records with the classes of a unifier: the instance of each fact can be read off them.
 #[derive(Clone, Copy)]
 struct Instances<'a> {
-    pair: Pair<'a>,
-    rep: &'a [u16],
-    ghost site: { Site pair.symbols.now pair.toks pair.a.now pair.b.now rep.now } by { one_site pair.symbols.now pair.toks pair.a.now pair.b.now rep.now },
+    classes: Classes<'a>,
+    ghost site: { Site classes.pair.symbols.now classes.pair.toks classes.pair.a.now classes.pair.b.now classes.rep.now } by { one_site classes.pair.symbols.now classes.pair.toks classes.pair.a.now classes.pair.b.now classes.rep.now },
 }
 
 // A rule as it grows: the text of its conclusion and of each hypothesis that is kept, and where these start.
@@ -40,7 +40,7 @@ struct Draft<'a, 'b> {
     starts: &'b mut [u16],
     end: usize,
     count: usize,
-    ghost space: { length text.now ≡ 2 * of.pair.toks },
+    ghost space: { length text.now ≡ 2 * of.classes.pair.toks },
 }
 
 impl<'a> Instances<'a> {
@@ -48,28 +48,27 @@ impl<'a> Instances<'a> {
     fn new(symbols: &'a [u8], a: &'a [u8], b: &'a [u8], toks: usize, rep: &'a [u16]) -> Self
         requires given { Given toks a.now b.now }
         requires solved { (p : ℕ) × ((q : ℕ) × Solved (graph symbols.now (facts toks a.now b.now)) p q rep.now) }
-        ensures pair { (result.pair.symbols.now ≡ symbols.now) × ((result.pair.a.now ≡ a.now) × ((result.pair.b.now ≡ b.now) × (result.pair.toks ≡ toks))) }
-        ensures classes { result.rep.now ≡ rep.now }
+        ensures pair { (result.classes.pair.symbols.now ≡ symbols.now) × ((result.classes.pair.a.now ≡ a.now) × ((result.classes.pair.b.now ≡ b.now) × (result.classes.pair.toks ≡ toks))) }
+        ensures rep { result.classes.rep.now ≡ rep.now }
     {
+        let pair = Pair {
+            symbols,
+            a,
+            b,
+            toks,
+        };
         Instances {
-            pair: Pair {
-                symbols,
-                a,
-                b,
-                toks,
-            },
-            rep,
+            classes: Classes { pair, rep },
         }
     }
 
-    // Writes the instance of the fact at a place from p on, and returns the place behind it; cap + 1 where that is past cap.
-    fn write(&self, place: usize, text: &mut [u16], p: usize, cap: usize) -> usize
-        requires places { (place ≤ 2 * self.now.pair.toks) × (p ≤ cap) }
-        requires room { cap ≤ length text.old }
-        ensures { let pair = self.now.pair in let ts = facts pair.toks pair.a.now pair.b.now in Writes (graph pair.symbols.now ts) self.now.rep.now (node ts place) cap text.old text.new p result }
+    // Writes the codes of the instance of the fact at a place, and returns their number.
+    fn write(&self, place: usize, out: &mut [u16]) -> Result<usize, TooLarge>
+        requires { place ≤ 2 * self.now.classes.pair.toks }
+        ensures { let pair = self.now.classes.pair in let ts = facts pair.toks pair.a.now pair.b.now in Writes (graph pair.symbols.now ts) self.now.classes.rep.now (node ts place) out.new (result_ok result) }
     {
-        self.pair
-            .write(self.rep, text, p, cap, self.pair.node_at(place))
+        let node = self.classes.pair.node_at(place);
+        self.classes.write(out, node).ok_or(TooLarge)
     }
 }
 
@@ -104,11 +103,11 @@ fn number(text: &[u16], vars: usize, names: &mut [u8], rec: &mut [u8]) -> Result
     let mut set: u32 = 0;
     for (i, &code) in text.iter().enumerate() {
         let code = usize::from(code);
-        if code < 256 {
+        if code < FIRST_VARIABLE {
             rec[i + 2] = code as u8;
             continue;
         }
-        let x = code - 256;
+        let x = code - FIRST_VARIABLE;
         set = name(names, x, set, vars)?;
         rec[i + 2] = names[x];
     }
@@ -120,16 +119,13 @@ impl<'a, 'b> Draft<'a, 'b> {
 
     // Begins with the instance of the fact at a place: the conclusion.
     fn start(&mut self, place: usize) -> Result<(), TooLarge>
-        requires { place ≤ 2 * self.old.of.pair.toks }
+        requires { place ≤ 2 * self.old.of.classes.pair.toks }
         ensures same { IsSameRoom self.old self.new }
         ensures left { Leaves self.old self.new (node_of self.old.of place ∷ []) result }
     {
-        let toks = self.of.pair.toks;
-        self.end = self.of.write(place, self.text, 0, toks);
+        let toks = self.of.classes.pair.toks;
+        self.end = self.of.write(place, &mut self.text[..toks])?;
         self.count = 0;
-        if toks < self.end {
-            return Err(TooLarge);
-        }
         Ok(())
     }
 
@@ -150,26 +146,22 @@ impl<'a, 'b> Draft<'a, 'b> {
     // Adds the instance of the fact at a place, unless it is a copy of one that is kept.
     fn add(&mut self, place: usize) -> Result<(), TooLarge>
         requires held { (ns : List ℕ) × Holds self.old ns }
-        requires inside { place ≤ 2 * self.old.of.pair.toks }
+        requires inside { place ≤ 2 * self.old.of.classes.pair.toks }
         ensures same { IsSameRoom self.old self.new }
         ensures left { (ns : List ℕ) → Holds self.old ns → Leaves self.old self.new (ns ++ (node_of self.old.of place ∷ [])) result }
     {
-        let toks = self.of.pair.toks;
+        let toks = self.of.classes.pair.toks;
         let end = self.end;
-        let cap = end + toks;
-        let next = self.of.write(place, self.text, end, cap);
-        if cap < next {
-            return Err(TooLarge);
-        }
-        if self.is_copy(end, next - end) {
+        let len = self.of.write(place, &mut self.text[end..end + toks])?;
+        if self.is_copy(end, len) {
             return Ok(());
         }
-        if toks < next || self.starts.len() <= self.count {
+        if toks < end + len || self.starts.len() <= self.count {
             return Err(TooLarge);
         }
         self.starts[self.count] = end as u16;
         self.count += 1;
-        self.end = next;
+        self.end = end + len;
         Ok(())
     }
 
@@ -177,11 +169,11 @@ impl<'a, 'b> Draft<'a, 'b> {
     fn add_side(&mut self, rec: &[u8], base: usize, skip: usize) -> Result<(), TooLarge>
         requires held { (ns : List ℕ) × Holds self.old ns }
         requires counted { 0 < length rec.now }
-        requires inside { base + length (tokens_of rec.now) ≤ 2 * self.old.of.pair.toks }
+        requires inside { base + length (tokens_of rec.now) ≤ 2 * self.old.of.classes.pair.toks }
         ensures same { IsSameRoom self.old self.new }
         ensures left { (ns : List ℕ) → Holds self.old ns → Leaves self.old self.new (ns ++ side_of self.old.of rec.now base skip) result }
     {
-        let symbols = self.of.pair.symbols;
+        let symbols = self.of.classes.pair.symbols;
         let tokens = tokens(rec);
         let mut at = fact_start(symbols, tokens, 1);
         for _ in 0..rec[0] {
@@ -197,12 +189,12 @@ impl<'a, 'b> Draft<'a, 'b> {
 
     // Gathers the rule: the conclusion of b, the hypotheses of a, and those of b but the one at `at`.
     fn gather(&mut self, at: usize) -> Result<(), TooLarge>
-        requires counts { (get_or self.old.of.pair.a.now 1 0 ≤ self.old.of.pair.toks) × (get_or self.old.of.pair.b.now 1 0 ≤ self.old.of.pair.toks) }
-        requires inside { at ≤ self.old.of.pair.toks }
+        requires counts { (get_or self.old.of.classes.pair.a.now 1 0 ≤ self.old.of.classes.pair.toks) × (get_or self.old.of.classes.pair.b.now 1 0 ≤ self.old.of.classes.pair.toks) }
+        requires inside { at ≤ self.old.of.classes.pair.toks }
         ensures same { IsSameRoom self.old self.new }
         ensures left { Leaves self.old self.new (nodes_of self.old.of at) result }
     {
-        let pair = self.of.pair;
+        let pair = self.of.classes.pair;
         let skip = pair.toks + at;
         self.start(pair.toks)?;
         self.add_side(pair.a, 0, skip)?;
@@ -212,10 +204,10 @@ impl<'a, 'b> Draft<'a, 'b> {
     // Writes the rule as a record, unless it has more than `vars` variables.
     fn write(&self, vars: usize, names: &mut [u8], rec: &mut [u8]) -> Result<(), TooLarge>
         requires held { (ns : List ℕ) × Holds self.now ns }
-        requires room { Writable self.now.of.pair.toks (length self.now.starts.now) vars names.old rec.old }
+        requires room { Writable self.now.of.classes.pair.toks (length self.now.starts.now) vars names.old rec.old }
         ensures { (ns : List ℕ) → Holds self.now ns → IsWritten self.now vars rec.old rec.new ns (is_ok result) }
     {
-        let toks = self.of.pair.toks;
+        let toks = self.of.classes.pair.toks;
         let end = self.end;
         names.fill(0);
         number(&self.text[..end], vars, names, rec)?;
@@ -226,26 +218,26 @@ impl<'a, 'b> Draft<'a, 'b> {
     }
 }
 
-/// Writes the combination of the rules in a and b upon the hypothesis at the place `at` of b, after `unify` found the classes `rep`.
+/// Writes the combination of the rules in a and b upon the hypothesis at the place `at` of b, after `unify` found these classes.
 /// It is too large with more than `hyps` hypotheses, `toks` tokens or `vars` variables.
-pub fn combined<'a, 'b>(
-    pair: &Pair<'a>,
+pub fn combined<'b>(
+    classes: &Classes,
     hyps: usize,
     vars: usize,
     at: usize,
-    rep: &'a [u16],
-    o: &'b mut [u16],
+    text: &'b mut [u16],
     starts: &'b mut [u16],
     names: &mut [u8],
     rec: &mut [u8],
 ) -> Result<(), TooLarge>
-    requires { Combinable pair.now.symbols.now pair.now.toks hyps vars at pair.now.a.now pair.now.b.now rep.now o.old starts.old names.old rec.old }
-    ensures { (r : Rule) (r' : Rule) (k : ℕ) (h : Term) → Combines pair.now.symbols.now pair.now.a.now pair.now.b.now at r r' k h → CombinationIs pair.now.toks hyps vars r r' k rec.old rec.new (is_ok result) }
+    requires { let pair = classes.now.pair in Combinable pair.symbols.now pair.toks hyps vars at pair.a.now pair.b.now classes.now.rep.now text.old starts.old names.old rec.old }
+    ensures { let pair = classes.now.pair in (r : Rule) (r' : Rule) (k : ℕ) (h : Term) → Combines pair.symbols.now pair.a.now pair.b.now at r r' k h → CombinationIs pair.toks hyps vars r r' k rec.old rec.new (is_ok result) }
 {
-    let of = Instances::new(pair.symbols, pair.a, pair.b, pair.toks, rep);
+    let pair = classes.pair;
+    let of = Instances::new(pair.symbols, pair.a, pair.b, pair.toks, classes.rep);
     let mut draft = Draft {
         of,
-        text: o,
+        text,
         starts: &mut starts[..hyps],
         end: 0,
         count: 0,

@@ -12,7 +12,7 @@ loop-preserved-then-place-skip c =
     let a = c.args in
     let d = a.self.now in
     let l = c.loop in
-    let e = c.span-at.ensures.0 ∙ ap (λ (t : List ℕ). span (arity_of d.of.pair.symbols.now) 1 (drop l.at t)) c.tokens-tokens.ensures in
+    let e = c.span-at.ensures.0 ∙ ap (λ (t : List ℕ). span (arity_of d.of.classes.pair.symbols.now) 1 (drop l.at t)) c.tokens-tokens.ensures in
     record {
       inside = omega (arith, c.span-at.ensures.1, ap length c.tokens-tokens.ensures);
       same = l.invariant.same;
@@ -31,7 +31,7 @@ returns-in_err-add-clause-left c =
     let a = c.args in
     let d = a.self.now in
     let l = c.loop in
-    let e = c.span-at.ensures.0 ∙ ap (λ (t : List ℕ). span (arity_of d.of.pair.symbols.now) 1 (drop l.at t)) c.tokens-tokens.ensures in
+    let e = c.span-at.ensures.0 ∙ ap (λ (t : List ℕ). span (arity_of d.of.classes.pair.symbols.now) 1 (drop l.at t)) c.tokens-tokens.ensures in
     rw p.1
     (
     λ ns h. going_over d.of (length d.starts.now) a.rec.now a.base a.skip l.self l.counter l.at c.span-at.result (omega arith) e ns (l.invariant.going ns h) c.if-place-skip.false c.add.new.self c.add.result
@@ -43,7 +43,7 @@ loop-preserved c =
     let a = c.args in
     let d = a.self.now in
     let l = c.loop in
-    let e = c.span-at.ensures.0 ∙ ap (λ (t : List ℕ). span (arity_of d.of.pair.symbols.now) 1 (drop l.at t)) c.tokens-tokens.ensures in
+    let e = c.span-at.ensures.0 ∙ ap (λ (t : List ℕ). span (arity_of d.of.classes.pair.symbols.now) 1 (drop l.at t)) c.tokens-tokens.ensures in
     record {
       inside = omega (arith, c.span-at.ensures.1, ap length c.tokens-tokens.ensures);
       same = same_room d l.self c.add.new.self l.invariant.same c.add.ensures.same;

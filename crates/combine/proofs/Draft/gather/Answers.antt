@@ -11,36 +11,36 @@ pub returns-in_err-start-clause-left : goal.returns-in_err-start-clause-left
 returns-in_err-start-clause-left c =
     let e = err_from_is_err_and c.from_residual.result c.from_residual.ensures.1 in
     let of = c.args.self.now.of in
-    let p = of.pair in
-    rw e.1 (start_over p.symbols.now p.toks (length c.args.self.now.starts.now) c.args.at p.a.now p.b.now of.rep.now of.site c.in_err-start.ensures.left)
+    let p = of.classes.pair in
+    rw e.1 (start_over p.symbols.now p.toks (length c.args.self.now.starts.now) c.args.at p.a.now p.b.now of.classes.rep.now of.site c.in_err-start.ensures.left)
 
 pub add_side-requires-clause-inside : goal.add_side-requires-clause-inside
 add_side-requires-clause-inside c =
-    let p = c.args.self.now.of.pair in
-    omega (arith, tokens_short p.toks p.a.now (tokens_of p.a.now) c.requires.counts.0 refl, ap (λ (x : Instances). x.pair.toks) c.start.ensures.same.0)
+    let p = c.args.self.now.of.classes.pair in
+    omega (arith, tokens_short p.toks p.a.now (tokens_of p.a.now) c.requires.counts.0 refl, ap (λ (x : Instances). x.classes.pair.toks) c.start.ensures.same.0)
 
 pub returns-in_err-add_side-clause-left : goal.returns-in_err-add_side-clause-left
 returns-in_err-add_side-clause-left c =
     let e = err_from_is_err_and c.from_residual-in_err-add_side.result c.from_residual-in_err-add_side.ensures.1 in
     let d = c.args.self.now in
-    let p = d.of.pair in
+    let p = d.of.classes.pair in
     let side = λ (x : Instances). side_of x p.a.now 0 (p.toks + c.args.at) in
     rw e.1
     (
-    left_over p.symbols.now p.toks (length d.starts.now) c.args.at p.a.now p.b.now d.of.rep.now d.of.site
+    left_over p.symbols.now p.toks (length d.starts.now) c.args.at p.a.now p.b.now d.of.classes.rep.now d.of.site
     (step_in d c.start.new.self c.start.ensures.same side c.add_side.new.self (Err _) c.in_err-add_side.ensures.left (node_of d.of p.toks ∷ []) c.in_ok-start.ensures.left)
     )
 
 pub add_side-requires-2-clause-inside : goal.add_side-requires-2-clause-inside
 add_side-requires-2-clause-inside c =
-    let p = c.args.self.now.of.pair in
-    omega (arith, tokens_short p.toks p.b.now (tokens_of p.b.now) c.requires.counts.1 refl, ap (λ (x : Instances). x.pair.toks) (c.add_side.ensures.same.0 ∙ c.start.ensures.same.0))
+    let p = c.args.self.now.of.classes.pair in
+    omega (arith, tokens_short p.toks p.b.now (tokens_of p.b.now) c.requires.counts.1 refl, ap (λ (x : Instances). x.classes.pair.toks) (c.add_side.ensures.same.0 ∙ c.start.ensures.same.0))
 
 pub returns-clause-left : goal.returns-clause-left
 unfolding all_nodes
 returns-clause-left c =
     let d = c.args.self.now in
-    let p = d.of.pair in
+    let p = d.of.classes.pair in
     let side = λ (x : Instances). side_of x p.a.now 0 (p.toks + c.args.at) in
     let other = λ (x : Instances). side_of x p.b.now p.toks (p.toks + c.args.at) in
     let e = c.start.new.self in
