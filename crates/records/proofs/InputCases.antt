@@ -1,85 +1,57 @@
--- Laws of which input is refused: the answer in each case. Assumes nothing.
-use mathlib.Core.Path.{◌≡◌, refl, sym, ◌∙◌}
+-- Laws of which input is refused: a refusal of one table ends the test, and a good table passes it on. Assumes nothing.
+use mathlib.Core.Path.{◌≡◌, refl}
 use mathlib.Core.Bool.{Bool, true, false}
 use mathlib.Core.Option.{Option, none, some}
 use mathlib.Core.List.{List}
-use Prim.Native.Nat.{ℕ, ◌+◌, ◌*◌, ◌/◌, ◌%◌, ◌≤◌}
-use native.Mathlib.Omega.{arith}
-use borrow.Author.Tests.{eq-eqb, ne_eqb, leb-true}
-use lib.Dec.{eqb, leb}
+use Prim.Native.Nat.{ℕ, ◌+◌, ◌/◌}
 use lib.ListN.{length}
-use Rattle.model.specs.Term.{both}
+use Rattle.std.specs.Prelude.{Result, Ok, Err}
+use Rattle.theory.specs.Basics.{no_confusion}
 use Rattle.records.specs.declared.Fault.TheVariants.{Length, Record}
-use Rattle.records.specs.declared.Refusal.TheVariants.{Symbols, Rules, Query}
-use Rattle.records.specs.declared.Input.TheVariants.{Good, Bad}
-use Rattle.records.specs.declared.Found.{Found}
-use Rattle.records.specs.declared.Found.TheVariants.{At, Nothing}
-use Rattle.records.specs.Found.{found_of}
+use Rattle.records.specs.declared.Refusal.{Refusal}
+use Rattle.records.specs.declared.Refusal.TheVariants.{Symbols, Rules}
 use Rattle.records.specs.Symbols.{symbols_length, first_bad_symbol}
-use Rattle.records.specs.Rules.{rule_good, first_bad_rule}
-use Rattle.records.specs.Input.{query_input, rules_length, rules_input, input_of}
+use Rattle.records.specs.Rules.{first_bad_rule}
+use Rattle.records.specs.Input.{query_input, rules_length, rules_input, symbols_alone, rules_alone, input_of}
 
--- ---- what a search found
-at : (o : Option ℕ) (i : ℕ) → found_of o ≡ At i → o ≡ some i
-at (some j) i e = cc
-at none i e = let z : ◌≡◌ {A = ℕ} 0 1 = cc in absurd (omega arith)
+abbrev Answer : Type 0
+Answer = Result Unit Refusal
 
-nothing : (o : Option ℕ) → found_of o ≡ Nothing → o ≡ none
-nothing (some j) e = let z : ◌≡◌ {A = ℕ} 0 1 = cc in absurd (omega arith)
-nothing none e = refl
+-- A length and a search, each with its refusal, and what is answered where both are good.
+abbrev tested : Bool → Option ℕ → Refusal → (ℕ → Refusal) → Answer → Answer
+tested c o f g a = elim c [ false ↦ Err f | true ↦ elim o [ some i ↦ Err (g i) | none ↦ a ] ]
 
-pub found_at : (o : Option ℕ) {f : Found} {i : ℕ} → f ≡ found_of o → f ≡ At i → o ≡ some i
-found_at o {i = i} e g = at o i (sym e ∙ g)
+stops : (c : Bool) (o : Option ℕ) (f : Refusal) (g : ℕ → Refusal) (a : Answer) (e : Refusal) → ◌≡◌ {A = Answer} (tested c o f g (Ok tt)) (Err e) → ◌≡◌ {A = Answer} (tested c o f g a) (Err e)
+stops false o f g a e h = h
+stops true (some i) f g a e h = h
+stops true none f g a e h = no_confusion (cc)
 
-pub found_nothing : (o : Option ℕ) {f : Found} → f ≡ found_of o → f ≡ Nothing → o ≡ none
-found_nothing o e g = nothing o (sym e ∙ g)
+goes_on : (c : Bool) (o : Option ℕ) (f : Refusal) (g : ℕ → Refusal) (a : Answer) (u : Unit) → ◌≡◌ {A = Answer} (tested c o f g (Ok tt)) (Ok u) → ◌≡◌ {A = Answer} (tested c o f g a) a
+goes_on false o f g a u h = no_confusion (cc)
+goes_on true (some i) f g a u h = no_confusion (cc)
+goes_on true none f g a u h = refl
 
 module _ (sy : List ℕ) (h T v : ℕ) (ru qu : List ℕ) where
-  -- ---- the query
-  pub query_length_lem : (length qu ≡ T + 8 → ⊥) → Bad (Query Length) ≡ query_input sy T qu
-  unfolding query_input
-  query_length_lem e = rw (ne_eqb _ _ e, query_input)
+  abbrev bad_symbol : Option ℕ
+  bad_symbol = first_bad_symbol sy (length sy / 16) 0 sy
 
-  pub query_bad : length qu ≡ T + 8 → rule_good sy 0 T 0 qu ≡ false → Bad (Query (Record 0)) ≡ query_input sy T qu
-  unfolding query_input
-  query_bad e f = rw (eq-eqb _ _ e, f, query_input)
+  abbrev bad_rule : Option ℕ
+  bad_rule = first_bad_rule sy h T v (length ru / (T + 8)) 0 ru
 
-  pub query_good_lem : length qu ≡ T + 8 → rule_good sy 0 T 0 qu ≡ true → Good ≡ query_input sy T qu
-  unfolding query_input
-  query_good_lem e f = rw (eq-eqb _ _ e, f, query_input)
+  pub input_symbols : (e : Refusal) → symbols_alone sy ≡ Err e → input_of h T v sy ru qu ≡ Err e
+  unfolding symbols_alone input_of
+  input_symbols e k = stops (symbols_length (length sy)) bad_symbol (Symbols Length) (λ i. Symbols (Record i)) (rules_input sy h T v ru qu) e k
 
-  -- ---- the rules
-  pub rules_length_lem : rules_length T (length ru) ≡ false → Bad (Rules Length) ≡ rules_input sy h T v ru qu
-  unfolding rules_input
-  rules_length_lem e = rw (e, rules_input)
+  pub input_rules : (u : Unit) → symbols_alone sy ≡ Ok u → input_of h T v sy ru qu ≡ rules_input sy h T v ru qu
+  unfolding symbols_alone input_of
+  input_rules u k = goes_on (symbols_length (length sy)) bad_symbol (Symbols Length) (λ i. Symbols (Record i)) (rules_input sy h T v ru qu) u k
 
-  pub rules_bad : (i : ℕ) → rules_length T (length ru) ≡ true → first_bad_rule sy h T v (length ru / (T + 8)) 0 ru ≡ some i → Bad (Rules (Record i)) ≡ rules_input sy h T v ru qu
-  unfolding rules_input
-  rules_bad i e f = rw (e, f, rules_input)
+  pub rules_refused : (e : Refusal) → rules_alone sy h T v ru ≡ Err e → rules_input sy h T v ru qu ≡ Err e
+  unfolding rules_alone rules_input
+  rules_refused e k = stops (rules_length T (length ru)) bad_rule (Rules Length) (λ i. Rules (Record i)) (query_input sy T qu) e k
 
-  pub rules_good_lem : rules_length T (length ru) ≡ true → first_bad_rule sy h T v (length ru / (T + 8)) 0 ru ≡ none → query_input sy T qu ≡ rules_input sy h T v ru qu
-  unfolding rules_input
-  rules_good_lem e f = rw (e, f, rules_input)
+  pub rules_query : (u : Unit) → rules_alone sy h T v ru ≡ Ok u → rules_input sy h T v ru qu ≡ query_input sy T qu
+  unfolding rules_alone rules_input
+  rules_query u k = goes_on (rules_length T (length ru)) bad_rule (Rules Length) (λ i. Rules (Record i)) (query_input sy T qu) u k
 
-  -- ---- the symbols
-  pub symbols_length_lem : symbols_length (length sy) ≡ false → Bad (Symbols Length) ≡ input_of h T v sy ru qu
-  unfolding input_of
-  symbols_length_lem e = rw (e, input_of)
-
-  pub symbols_bad : (i : ℕ) → symbols_length (length sy) ≡ true → first_bad_symbol sy (length sy / 16) 0 sy ≡ some i → Bad (Symbols (Record i)) ≡ input_of h T v sy ru qu
-  unfolding input_of
-  symbols_bad i e f = rw (e, f, input_of)
-
-  pub symbols_good_lem : symbols_length (length sy) ≡ true → first_bad_symbol sy (length sy / 16) 0 sy ≡ none → rules_input sy h T v ru qu ≡ input_of h T v sy ru qu
-  unfolding input_of
-  symbols_good_lem e f = rw (e, f, input_of)
-
--- ---- the length of the rules
-both_left : (a b : Bool) → both a b ≡ true → a ≡ true
-unfolding both
-both_left true b e = refl
-both_left false b e = e
-
-pub rules_fit : (T n : ℕ) → T ≤ 248 → rules_length T n ≡ true → n ≤ 65536
-unfolding rules_length
-rules_fit T n h e = let k = leb-true n (256 * (T + 8)) (both_left (leb n (256 * (T + 8))) (eqb (n % (T + 8)) 0) e) in omega arith
+pub ruleset inputs = (input_symbols, input_rules, rules_refused, rules_query)

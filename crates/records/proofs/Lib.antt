@@ -1,4 +1,5 @@
 pub mod Laws
 pub mod SymbolSteps
 pub mod RuleSteps
+pub mod KindLaws
 pub mod InputCases

@@ -1,5 +1,6 @@
 pub mod Tokens
 pub mod Symbols
+pub mod Kinds
 pub mod Rules
 pub mod Found
 pub mod Input

@@ -3,7 +3,7 @@ use Prim.Native.Nat.{ℕ, zero, suc, ◌+◌, ◌-◌, ◌*◌, ◌/◌, ◌%◌
 use Rattle.std.proofs.Common.{add-zero, div-add-mod', ◌∙◌, length-append, take-append-drop, take_at, drop-drop, length-take-le, get_or-drop}
 use Rattle.std.proofs.Math.Nat.{zero-add, div-le_of_le-mul}
 use native.Mathlib.Omega.{arith}
-use Rattle.std.specs.Prelude.{Bool, ◌≡◌, eqb, leb, length, take, replicate}
+use Rattle.std.specs.Prelude.{Bool, ◌≡◌, eqb, leb, length, take, replicate, Result, Ok, Err}
 use Rattle.std.proofs.Math.Bool.{true, false}
 use Rattle.std.proofs.Math.Option.{Option, none, some}
 use mathlib.Core.List.{List, [], ◌∷◌, ◌++◌}
@@ -25,8 +25,6 @@ use Rattle.records.specs.Rules.{in_term, good_tokens, tokens_of, rule_good, firs
 use Rattle.records.specs.declared.Fault.TheVariants.{Length, Record}
 use Rattle.records.specs.declared.Refusal.{Refusal}
 use Rattle.records.specs.declared.Refusal.TheVariants.{Symbols, Rules, Query}
-use Rattle.records.specs.declared.Input.{Input as Answer}
-use Rattle.records.specs.declared.Input.TheVariants.{Good, Bad}
 use Rattle.records.specs.Input.{query_input, rules_length, rules_input, input_of}
 use Rattle.records.specs.TokenLaws.{EachVar, EachVars, Small, Numbered, Agrees, leaf_var, leaf_con, leaves_terms, length_leaves_all, terms_facts}
 
@@ -482,39 +480,42 @@ pub record Accepted (h T v : ℕ) (sy ru qu : List ℕ) : Type 0 where
   pub query_fits : size (decode_query sy qu) ≤ T
 
 -- The tests in their order.
-good_if : (c : Bool) (f : Refusal) (a : Answer) → elim c [ false ↦ Bad f | true ↦ a ] ≡ Good → (c ≡ true) × (a ≡ Good)
+abbrev Answer : Type 0
+Answer = Result Unit Refusal
+
+good_if : (c : Bool) (f : Refusal) (a : Answer) → ◌≡◌ {A = Answer} (elim c [ false ↦ Err f | true ↦ a ]) (Ok tt) → (c ≡ true) × (a ≡ Ok tt)
 good_if true f a e = (refl, e)
 good_if false f a e = no_confusion (cc)
 
-good_none : (o : Option ℕ) (f : ℕ → Refusal) (a : Answer) → elim o [ some i ↦ Bad (f i) | none ↦ a ] ≡ Good → (o ≡ none) × (a ≡ Good)
+good_none : (o : Option ℕ) (f : ℕ → Refusal) (a : Answer) → ◌≡◌ {A = Answer} (elim o [ some i ↦ Err (f i) | none ↦ a ]) (Ok tt) → (o ≡ none) × (a ≡ Ok tt)
 good_none none f a e = (refl, e)
 good_none (some i) f a e = no_confusion (cc)
 
-query_passed : (sy : List ℕ) (T : ℕ) (qu : List ℕ) → query_input sy T qu ≡ Good → (length qu ≡ T + 8) × (rule_good sy 0 T 0 qu ≡ true)
+query_passed : (sy : List ℕ) (T : ℕ) (qu : List ℕ) → query_input sy T qu ≡ Ok tt → (length qu ≡ T + 8) × (rule_good sy 0 T 0 qu ≡ true)
 unfolding query_input
 query_passed sy T qu e =
-    let a = good_if (eqb (length qu) (T + 8)) (Query Length) (elim (rule_good sy 0 T 0 qu) [ false ↦ Bad (Query (Record 0)) | true ↦ Good ]) e in
-    (eqb-true (length qu) (T + 8) a.0, (good_if (rule_good sy 0 T 0 qu) (Query (Record 0)) Good a.1).0)
+    let a = good_if (eqb (length qu) (T + 8)) (Query Length) (elim (rule_good sy 0 T 0 qu) [ false ↦ Err (Query (Record 0)) | true ↦ Ok tt ]) e in
+    (eqb-true (length qu) (T + 8) a.0, (good_if (rule_good sy 0 T 0 qu) (Query (Record 0)) (Ok tt) a.1).0)
 
 rules_passed :
-    (sy : List ℕ) (h T v : ℕ) (ru qu : List ℕ) → rules_input sy h T v ru qu ≡ Good
-    → (rules_length T (length ru) ≡ true) × (first_bad_rule sy h T v (length ru / (T + 8)) 0 ru ≡ none) × (query_input sy T qu ≡ Good)
+    (sy : List ℕ) (h T v : ℕ) (ru qu : List ℕ) → rules_input sy h T v ru qu ≡ Ok tt
+    → (rules_length T (length ru) ≡ true) × (first_bad_rule sy h T v (length ru / (T + 8)) 0 ru ≡ none) × (query_input sy T qu ≡ Ok tt)
 unfolding rules_input
 rules_passed sy h T v ru qu e =
     let o = first_bad_rule sy h T v (length ru / (T + 8)) 0 ru in
     let q = query_input sy T qu in
-    let a = good_if (rules_length T (length ru)) (Rules Length) (elim o [ some i ↦ Bad (Rules (Record i)) | none ↦ q ]) e in
+    let a = good_if (rules_length T (length ru)) (Rules Length) (elim o [ some i ↦ Err (Rules (Record i)) | none ↦ q ]) e in
     let b = good_none o (λ i. Rules (Record i)) q a.1 in
     (a.0, b.0, b.1)
 
 symbols_passed :
-    (h T v : ℕ) (sy ru qu : List ℕ) → input_of h T v sy ru qu ≡ Good
-    → (symbols_length (length sy) ≡ true) × (first_bad_symbol sy (length sy / 16) 0 sy ≡ none) × (rules_input sy h T v ru qu ≡ Good)
+    (h T v : ℕ) (sy ru qu : List ℕ) → input_of h T v sy ru qu ≡ Ok tt
+    → (symbols_length (length sy) ≡ true) × (first_bad_symbol sy (length sy / 16) 0 sy ≡ none) × (rules_input sy h T v ru qu ≡ Ok tt)
 unfolding input_of
 symbols_passed h T v sy ru qu e =
     let o = first_bad_symbol sy (length sy / 16) 0 sy in
     let q = rules_input sy h T v ru qu in
-    let a = good_if (symbols_length (length sy)) (Symbols Length) (elim o [ some i ↦ Bad (Symbols (Record i)) | none ↦ q ]) e in
+    let a = good_if (symbols_length (length sy)) (Symbols Length) (elim o [ some i ↦ Err (Symbols (Record i)) | none ↦ q ]) e in
     let b = good_none o (λ i. Symbols (Record i)) q a.1 in
     (a.0, b.0, b.1)
 
@@ -536,7 +537,7 @@ query_size : (r : Rule) (T : ℕ) → size r.concl + size_all r.hyps ≤ T → s
 query_size r T h = omega arith
 
 -- An input that is not refused is good throughout.
-pub accepted : (h T v : ℕ) (sy ru qu : List ℕ) → input_of h T v sy ru qu ≡ Good → Accepted h T v sy ru qu
+pub accepted : (h T v : ℕ) (sy ru qu : List ℕ) → input_of h T v sy ru qu ≡ Ok tt → Accepted h T v sy ru qu
 unfolding decode_query
 accepted h T v sy ru qu e =
     let a = symbols_passed h T v sy ru qu e in

@@ -7,12 +7,18 @@ use native.Mathlib.Numerals.{add-one}
 use native.Mathlib.Omega.{arith}
 use borrow.Author.Tests.{lt-ltb, le-ltb, eqb-true, eqb-false, eq-eqb, ne_eqb}
 use lib.Dec.{eqb, ltb}
-use lib.ListN.{length, take, drop, get_or, length-drop, length-take, get_or-eq_default}
+use lib.ListN.{length, take, drop, get_or, length-drop, length-take, drop_of_length-le}
 use lib.Seq.{drop-cons, drop-drop}
+use Rattle.std.proofs.lemmas.List.{drop_more}
 use Rattle.model.specs.Term.{both}
 use Rattle.records.specs.Tokens.{span}
 use Rattle.records.specs.Symbols.{arity_of}
 use Rattle.records.specs.Rules.{tokens_of}
+use Rattle.std.specs.Prelude.{Some, None}
+use Rattle.std.specs.Borrow.{Bor}
+use Rattle.terms.specs.declared.Walk.{Walk}
+use Rattle.terms.specs.Walk.{Steps}
+use Rattle.terms.specs.OpenLaws.{open_long}
 use Rattle.terms.specs.Facts.{fact_at, hypothesis_of, open_bytes, base_open, all_open_bytes, hypotheses_open}
 
 module _ (ar : ℕ → ℕ) where
@@ -42,6 +48,8 @@ module _ (ar : ℕ → ℕ) where
   pub fact_is : (ts : List ℕ) (n a e : ℕ) → a ≡ span ar n ts → e ≡ span ar 1 (drop a ts) → take (a + e - a) (drop a ts) ≡ fact_at ar n ts
   unfolding fact_at
   fact_is ts n a e h g = let d : a + e - a ≡ e = omega arith in rw (d, g, h)
+
+pub ruleset spans = (span_none, span_step, span_end)
 
 -- A record's count of tokens is a byte.
 pub tokens_length : (rec : List ℕ) → get_or rec 1 0 < 256 → length (tokens_of rec) < 256
@@ -85,34 +93,40 @@ module _ (o : ℕ → Bool) where
   pub open_variable : (f : List ℕ) → length f ≡ 2 → get_or f 1 0 < 64 → open_bytes o f ≡ o (get_or f 0 0)
   open_variable f h k = open_two f h ∙ ap (both (o (get_or f 0 0))) (lt-ltb _ _ k) ∙ both_true (o (get_or f 0 0))
 
-  -- One turn of the walk over n facts, of which k are passed and the next stands at the place `at`.
-  module _ (ar : ℕ → ℕ) (ts : List ℕ) (n k at s : ℕ) (e : s ≡ span ar 1 (drop at ts)) where
-    turn : k < n → all_open_bytes o ar (n - k) (drop at ts) ≡ both (open_bytes o (take (at + s - at) (drop at ts))) (all_open_bytes o ar (n - (k + 1)) (drop (at + s) ts))
-    unfolding all_open_bytes
-    turn h =
-        let d : at + s - at ≡ s = omega arith in
-        let m : n - k ≡ suc (n - (k + 1)) = omega arith in
-        rw (m, d, e, drop-drop)
-
-    pub open_yes : k < n → open_bytes o (take (at + s - at) (drop at ts)) ≡ true → all_open_bytes o ar (n - k) (drop at ts) ≡ all_open_bytes o ar (n - (k + 1)) (drop (at + s) ts)
-    unfolding both
-    open_yes h b = rw b at (turn h)
-
-    pub open_no : k < n → open_bytes o (take (at + s - at) (drop at ts)) ≡ false → all_open_bytes o ar (n - k) (drop at ts) ≡ false
-    unfolding both
-    open_no h b = rw b at (turn h)
-
-  pub open_end : (ar : ℕ → ℕ) (l : List ℕ) (n k : ℕ) → n ≤ k → all_open_bytes o ar (n - k) l ≡ true
+  one_more : (ar : ℕ → ℕ) (n : ℕ) (l : List ℕ) → 0 < n → all_open_bytes o ar n l ≡ both (open_bytes o (take (span ar 1 l) l)) (all_open_bytes o ar (n - 1) (drop (span ar 1 l) l))
   unfolding all_open_bytes
-  open_end ar l n k h = let e : n - k ≡ 0 = omega arith in rw e
+  one_more ar zero l h = absurd (omega arith)
+  one_more ar (suc n) l h = let e : suc n - 1 ≡ n = omega arith in rw e
 
--- The walk over the hypotheses of a record: of none, and its start.
-module _ (sy rec : List ℕ) where
-  pub hypotheses_none : length rec ≡ 0 → hypotheses_open sy rec ≡ true
-  unfolding hypotheses_open all_open_bytes
-  hypotheses_none h = let k : length rec ≤ 0 = omega arith in rw (get_or-eq_default rec 0 {n = 0} k)
+  -- One turn of a walk, from w to v by the fact f, and its end.
+  abbrev pub rest_open : Walk → Bool
+  rest_open w = all_open_bytes o (arity_of w.facts.symbols.now) w.left (drop w.at w.facts.tokens.now)
 
-  pub hypotheses_start : (ts : List ℕ) (n at : ℕ) → n ≡ get_or rec 0 0 → ts ≡ tokens_of rec → at ≡ span (arity_of sy) 1 ts
-      → hypotheses_open sy rec ≡ all_open_bytes (base_open sy) (arity_of sy) (n - 0) (drop at ts)
-  unfolding hypotheses_open
-  hypotheses_start ts n at e t h = let z : n - 0 ≡ n = omega arith in rw (z, h, t, e)
+  module _ (w v : Walk) where
+    turn : (f : ℕ × Bor (List ℕ)) → Steps w (Some f) v → rest_open w ≡ both (open_bytes o f.1.now) (rest_open v)
+    turn f t = rw (t.2, t.3, t.4, t.5, ← drop-drop) (one_more (arity_of w.facts.symbols.now) w.left (drop w.at w.facts.tokens.now) t.0)
+
+    pub open_yes : (f : ℕ × Bor (List ℕ)) → Steps w (Some f) v → open_bytes o f.1.now ≡ true → rest_open w ≡ rest_open v
+    unfolding both
+    open_yes f t b = rw b at (turn f t)
+
+    pub open_no : (f : ℕ × Bor (List ℕ)) → Steps w (Some f) v → open_bytes o f.1.now ≡ false → rest_open w ≡ false
+    unfolding both
+    open_no f t b = rw b at (turn f t)
+
+    pub open_end : Steps w None v → rest_open w ≡ true
+    unfolding all_open_bytes
+    open_end t = rw t.0
+
+-- The walk over the hypotheses of a record.
+pub hypotheses_start : (sy rec ts : List ℕ) (at : ℕ) → ts ≡ tokens_of rec → at ≡ span (arity_of sy) 1 ts
+    → hypotheses_open sy rec ≡ all_open_bytes (base_open sy) (arity_of sy) (get_or rec 0 0) (drop at ts)
+unfolding hypotheses_open
+hypotheses_start sy rec ts at t h = rw (h, t)
+
+-- A list from a place on: its first token and what is behind it, or nothing.
+pub ruleset walk = (drop_more, drop_of_length-le)
+
+pub ruleset opens = (open_symbol, open_variable, open_long)
+
+pub ruleset walks = (hypotheses_start)

@@ -264,3 +264,7 @@ module _ (l : List ℕ) where
   -- The zeros below what the set leaves.
   pub gap_trailing : count_trailing_zeros 32 rest + 1 ≡ gap_from 32 1 l
   gap_trailing = sym (gap_is l 32 1 (count_trailing_zeros 32 rest + 1) (omega arith) (omega (arith, gap_bound)) below here)
+
+pub ruleset bits = (held_low, held_high, with_not, with_bit)
+
+pub ruleset gaps = (gap_bound, gap_trailing)

@@ -1,3 +1,4 @@
 pub mod Facts
 pub mod Vars
 pub mod OpenLaws
+pub mod Walk

@@ -1,4 +1,4 @@
--- The tokens of what is read of a node, with a cap on their number. Assumes nothing.
+-- The codes of what is read of a node, and what the writing of them leaves. Assumes nothing.
 use Prim.Native.Nat.{ℕ, suc, ◌+◌, ◌*◌, ◌-◌, ◌≤◌, ◌<◌}
 use native.Mathlib.Omega.{arith}
 use mathlib.Core.List.{List, [], ◌∷◌, ◌++◌, map, append_assoc, append-nil}

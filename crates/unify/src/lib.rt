@@ -1,3 +1,4 @@
+// The unifier on the very bytes of two records, and the instances of their terms under its classes.
 #![tactic(auto)]
 
 ghost use Rattle.std.specs.Prelude.{◌≡◌, ◌+◌, ◌*◌, ◌≤◌, ◌<◌, length, get_or};
@@ -11,10 +12,8 @@ ghost use Rattle.unify.specs.Solve.{Fresh};
 ghost use Rattle.unify.specs.Whole.{Tested, Differs, Unifies};
 ghost use Rattle.unify.specs.Writer.{Writes};
 
+use records::FIRST_SYMBOL;
 use records::symbols::arity;
-
-// The token of the first symbol; those below it are variables.
-const FIRST_SYMBOL: u8 = 64;
 
 /// The code of the first class without a symbol; a code below it is a symbol's token.
 pub const FIRST_VARIABLE: usize = 256;
@@ -51,7 +50,7 @@ pub struct Classes<'a> {
     pub ghost down: { Down rep.now } by { down_prop rep.now },
 }
 
-// The root of a node's class.
+// The root of a node's class: the loop follows links and counts nothing.
 #[tactic(auto, using(crate::specs::Code::down_at, crate::specs::Code::root_go, crate::specs::Code::root_end))]
 fn root(rep: &[u16], i: usize) -> usize
     requires { (i < length rep.now) × Down rep.now }
