@@ -1,5 +1,5 @@
 -- The laws of Built at a draft: what the steps of the code leave. Assumes nothing.
-use Rattle.std.proofs.Common.{ℕ, ◌+◌, ◌-◌, ◌*◌, ◌≤◌, ◌<◌, ◌≡◌, Bool, true, false, List, [], ◌∷◌, ◌++◌, length, take, drop, set, get_or, refl, ap, sym, subst, arith, ◌∙◌, Result, Ok, Err, Option, Some, None}
+use Rattle.std.proofs.Common.{ℕ, ◌+◌, ◌-◌, ◌*◌, ◌≤◌, ◌<◌, ◌≡◌, Bool, true, false, List, [], ◌∷◌, ◌++◌, length, take, drop, set, get_or, refl, ap, ap₂, sym, subst, arith, ◌∙◌, Result, Ok, Err, Option, Some, None}
 use Rattle.std.specs.Prelude.{All}
 use Rattle.records.specs.Tokens.{span}
 use Rattle.records.specs.Symbols.{arity_of}
@@ -11,6 +11,10 @@ use Rattle.unify.specs.Writer.{Writes}
 use Rattle.combine.specs.declared.Draft.{Draft}
 use Rattle.combine.specs.declared.Instances.{Instances}
 use Rattle.combine.specs.declared.TooLarge.{TooLarge}
+use Rattle.terms.specs.declared.Walk.{Walk}
+use Rattle.terms.specs.declared.Facts.{Facts}
+use Rattle.terms.specs.Walk.{Steps as WalkSteps}
+use Rattle.std.specs.Borrow.{Bor}
 use Rattle.combine.specs.Copies.{Says, Copy, has_copy}
 use Rattle.combine.specs.Built.{Built, Over, start_long, start_fits, add_long, copy_here, copy_short, copy_before, add_copy, add_large, add_many, add_kept}
 use Rattle.combine.specs.Draft.{both_of, node_of, side_of, HoldsIn, Holds, LeavesIn, Leaves, IsSameRoom, IsWritten}
@@ -119,38 +123,78 @@ module _ (of : Instances) (hyps : ℕ) (rec : List ℕ) (base skip : ℕ) where
   ar = arity_of of.classes.pair.symbols.now
 
   abbrev rest : ℕ → ℕ → List ℕ
-  rest k at = visits ar (both_of of) (tokens_of rec) base skip (get_or rec 0 0 - k) at
+  rest m at = visits ar (both_of of) (tokens_of rec) base skip m at
 
-  -- k of them went in, and the next stands at a place
-  abbrev pub Going : Draft → ℕ → ℕ → List ℕ → Type 0
-  Going d k at ns = Along of.classes.pair.symbols.now (both_of of) of.classes.rep.now of.classes.pair.toks hyps d.text.now d.starts.now d.end d.count (side_of of rec base skip) (rest k at) ns
+  -- a draft that the hypotheses before the walk went into: all but those that it has left
+  pub record Going (d : Draft) (w : Walk) (ns : List ℕ) : Type 0 where
+    pub symbols : w.facts.symbols.now ≡ of.classes.pair.symbols.now
+    pub tokens : w.facts.tokens.now ≡ tokens_of rec
+    pub along : Along of.classes.pair.symbols.now (both_of of) of.classes.rep.now of.classes.pair.toks hyps d.text.now d.starts.now d.end d.count (side_of of rec base skip) (rest w.left w.at) ns
 
-  pub going_start : (d : Draft) (at : ℕ) → at ≡ span ar 1 (tokens_of rec) → (ns : List ℕ) → HoldsIn of hyps d ns → Going d 0 at ns
-  going_start d at e ns h =
-      along_start of.classes.pair.symbols.now (both_of of) of.classes.rep.now of.classes.pair.toks hyps d.text.now d.starts.now d.end d.count (side_of of rec base skip) (rest 0 at) ns
-      (let z : get_or rec 0 0 - 0 ≡ get_or rec 0 0 = omega arith in ap (λ (m : ℕ). visits ar (both_of of) (tokens_of rec) base skip m (span ar 1 (tokens_of rec))) (sym z) ∙ ap (λ (m : ℕ). rest 0 m) (sym e)) h
+  pub going_start : (d : Draft) (w : Walk) → w.facts.symbols.now ≡ of.classes.pair.symbols.now → w.facts.tokens.now ≡ tokens_of rec → w.at ≡ span (arity_of w.facts.symbols.now) 1 w.facts.tokens.now → w.left ≡ get_or rec 0 0
+      → (ns : List ℕ) → HoldsIn of hyps d ns → Going d w ns
+  going_start d w es et ea el ns h =
+      record {
+        symbols = es;
+        tokens = et;
+        along =
+            along_start of.classes.pair.symbols.now (both_of of) of.classes.rep.now of.classes.pair.toks hyps d.text.now d.starts.now d.end d.count (side_of of rec base skip) (rest w.left w.at) ns
+            (sym (ap₂ (λ (m n : ℕ). rest m n) el (ea ∙ ap₂ (λ (s t : List ℕ). span (arity_of s) 1 t) es et))) h;
+      }
 
-  pub going_end : (d : Draft) (k at : ℕ) → get_or rec 0 0 ≤ k → (ns : List ℕ) → Going d k at ns → HoldsIn of hyps d (ns ++ side_of of rec base skip)
-  going_end d k at l ns g =
-      along_end of.classes.pair.symbols.now (both_of of) of.classes.rep.now of.classes.pair.toks hyps d.text.now d.starts.now d.end d.count (side_of of rec base skip) (rest k at) ns
-      (visit_none ar (both_of of) (tokens_of rec) base skip (get_or rec 0 0) k at l) g
+  pub going_end : (d : Draft) (w v : Walk) → WalkSteps w None v → (ns : List ℕ) → Going d w ns → HoldsIn of hyps d (ns ++ side_of of rec base skip)
+  going_end d w v t ns g =
+      along_end of.classes.pair.symbols.now (both_of of) of.classes.rep.now of.classes.pair.toks hyps d.text.now d.starts.now d.end d.count (side_of of rec base skip) (rest w.left w.at) ns
+      (ap (λ (m : ℕ). rest m w.at) t.0 ∙ visit_none ar (both_of of) (tokens_of rec) base skip w.at) g.along
 
-  module _ (d : Draft) (k at w : ℕ) (l : k < get_or rec 0 0) (e : w ≡ span ar 1 (drop at (tokens_of rec))) (ns : List ℕ) (g : Going d k at ns) where
-    pub going_skip : base + at ≡ skip → Going d (k + 1) (at + w) ns
+  module _ (d : Draft) (w v : Walk) (f : ℕ × Bor (List ℕ)) (t : WalkSteps w (Some f) v) (ns : List ℕ) (g : Going d w ns) where
+    size : ℕ
+    size = span (arity_of w.facts.symbols.now) 1 (drop w.at w.facts.tokens.now)
+
+    sized : size ≡ span ar 1 (drop w.at (tokens_of rec))
+    unfolding size
+    sized = ap₂ (λ (s u : List ℕ). span (arity_of s) 1 (drop w.at u)) g.symbols g.tokens
+
+    next : rest (w.left - 1) (w.at + size) ≡ rest v.left v.at
+    unfolding size
+    next = ap₂ (λ (m n : ℕ). rest m n) (sym t.5) (sym t.4)
+
+    still : v.facts.symbols.now ≡ of.classes.pair.symbols.now
+    still = ap (λ (x : Facts). x.symbols.now) t.3 ∙ g.symbols
+
+    stays : v.facts.tokens.now ≡ tokens_of rec
+    stays = ap (λ (x : Facts). x.tokens.now) t.3 ∙ g.tokens
+
+    pub going_skip : base + f.0 ≡ skip → Going d v ns
     going_skip h =
-        along_skip of.classes.pair.symbols.now (both_of of) of.classes.rep.now of.classes.pair.toks hyps d.text.now d.starts.now d.end d.count (side_of of rec base skip) (rest k at) (rest (k + 1) (at + w)) ns
-        (visit_skip ar (both_of of) (tokens_of rec) base skip (get_or rec 0 0) k at w (base + at) l e refl h) g
+        record {
+          symbols = still;
+          tokens = stays;
+          along =
+              along_skip of.classes.pair.symbols.now (both_of of) of.classes.rep.now of.classes.pair.toks hyps d.text.now d.starts.now d.end d.count (side_of of rec base skip) (rest w.left w.at) (rest v.left v.at) ns
+              (visit_skip ar (both_of of) (tokens_of rec) base skip w.left w.at size t.0 sized (omega (arith, t.1)) ∙ next) g.along;
+        }
 
-    module _ (h : base + at ≡ skip → ⊥) (d' : Draft) (r : Result (Unit {0}) TooLarge) (R : (ms : List ℕ) → HoldsIn of hyps d ms → LeavesIn of hyps d' (ms ++ (node_of of (base + at) ∷ [])) r) where
-      pub going_on : (x : Unit {0}) → r ≡ Ok x → Going d' (k + 1) (at + w) ns
+    module _ (h : base + f.0 ≡ skip → ⊥) (d' : Draft) (r : Result (Unit {0}) TooLarge) (R : (ms : List ℕ) → HoldsIn of hyps d ms → LeavesIn of hyps d' (ms ++ (node_of of (base + f.0) ∷ [])) r) where
+      node_next : rest w.left w.at ≡ node_of of (base + f.0) ∷ rest v.left v.at
+      node_next =
+          visit_node ar (both_of of) (tokens_of rec) base skip w.left w.at size t.0 sized (λ z. h (omega (arith, t.1)))
+          ∙ ap₂ (λ (n : ℕ) (l : List ℕ). node_of of (base + n) ∷ l) (sym t.1) next
+
+      pub going_on : (x : Unit {0}) → r ≡ Ok x → Going d' v ns
       going_on x q =
-          along_went of.classes.pair.symbols.now (both_of of) of.classes.rep.now of.classes.pair.toks hyps d.text.now d'.text.now d.starts.now d'.starts.now d.end d.count d'.end d'.count (side_of of rec base skip) (rest k at) (rest (k + 1) (at + w)) ns (node_of of (base + at))
-          (visit_node ar (both_of of) (tokens_of rec) base skip (get_or rec 0 0) k at w (base + at) l e refl h) g r R x q
+          record {
+            symbols = still;
+            tokens = stays;
+            along =
+                along_went of.classes.pair.symbols.now (both_of of) of.classes.rep.now of.classes.pair.toks hyps d.text.now d'.text.now d.starts.now d'.starts.now d.end d.count d'.end d'.count (side_of of rec base skip) (rest w.left w.at) (rest v.left v.at) ns
+                (node_of of (base + f.0)) node_next g.along r R x q;
+          }
 
       pub going_over : (x : TooLarge) → r ≡ Err x → TooMuchIn of hyps (ns ++ side_of of rec base skip)
       going_over x q =
-          along_over of.classes.pair.symbols.now (both_of of) of.classes.rep.now of.classes.pair.toks hyps d.text.now d'.text.now d.starts.now d'.starts.now d.end d.count d'.end d'.count (side_of of rec base skip) (rest k at) (rest (k + 1) (at + w)) ns (node_of of (base + at))
-          (visit_node ar (both_of of) (tokens_of rec) base skip (get_or rec 0 0) k at w (base + at) l e refl h) g r R of.site.reads x q
+          along_over of.classes.pair.symbols.now (both_of of) of.classes.rep.now of.classes.pair.toks hyps d.text.now d'.text.now d.starts.now d'.starts.now d.end d.count d'.end d'.count (side_of of rec base skip) (rest w.left w.at) (rest v.left v.at) ns
+          (node_of of (base + f.0)) node_next g.along r R of.site.reads x q
 
 -- ---- what was written, by the records and the room that the draft began with
 pub written_in : (d : Draft) (of : Instances) (hyps : ℕ) → d.of ≡ of → length d.starts.now ≡ hyps → (f : Instances → List ℕ) (vars : ℕ) (old new : List ℕ) (ok : Bool)

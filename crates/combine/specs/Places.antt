@@ -1,6 +1,6 @@
 -- The nodes that one side gives: those of its hypotheses one after another, but for the one that is skipped. Assumes nothing.
-use Rattle.std.specs.Prelude.{ℕ, zero, suc, ◌+◌, ◌-◌, ◌≤◌, ◌<◌, true, false, List, [], ◌∷◌, ◌++◌, ◌≡◌, eqb, drop, Result, Ok, Err}
-use Rattle.std.proofs.Common.{arith, append_assoc, append-nil, ap, ap₂, ◌∙◌, sym, subst, eq-eqb, ne_eqb}
+use Rattle.std.specs.Prelude.{ℕ, zero, suc, ◌+◌, ◌-◌, ◌<◌, true, false, List, [], ◌∷◌, ◌++◌, ◌≡◌, refl, eqb, drop, Result, Ok, Err}
+use Rattle.std.proofs.Common.{arith, append_assoc, append-nil, ap, ◌∙◌, sym, subst, eq-eqb, ne_eqb}
 use Rattle.records.specs.Tokens.{span}
 use Rattle.unify.specs.Nodes.{graph, node}
 use Rattle.unify.specs.Inside.{Read}
@@ -30,25 +30,25 @@ pub record Along (sy ts s : List ℕ) (T hyps : ℕ) (o starts : List ℕ) (e n 
   pub built : Built sy ts s T hyps o starts e n nodes
   pub whole : ns ++ all ≡ nodes ++ rest
 
-module _ (ar : ℕ → ℕ) (ts tokens : List ℕ) (base skip n k at d p : ℕ) (l : k < n) (e : d ≡ span ar 1 (drop at tokens)) (q : p ≡ base + at) where
-  less : n - k ≡ suc (n - (k + 1))
+module _ (ar : ℕ → ℕ) (ts tokens : List ℕ) (base skip m at d : ℕ) (l : 0 < m) (e : d ≡ span ar 1 (drop at tokens)) where
+  less : m ≡ suc (m - 1)
   less = omega arith
 
-  pub visit_skip : p ≡ skip → visits ar ts tokens base skip (n - k) at ≡ visits ar ts tokens base skip (n - (k + 1)) (at + d)
+  pub visit_skip : base + at ≡ skip → visits ar ts tokens base skip m at ≡ visits ar ts tokens base skip (m - 1) (at + d)
   visit_skip h =
-      ap (λ (m : ℕ). visits ar ts tokens base skip m at) less
-      ∙ visits_skip ar ts tokens base skip (n - (k + 1)) at (eq-eqb (base + at) skip (sym q ∙ h))
-      ∙ ap (λ (m : ℕ). visits ar ts tokens base skip (n - (k + 1)) (at + m)) (sym e)
+      ap (λ (n : ℕ). visits ar ts tokens base skip n at) less
+      ∙ visits_skip ar ts tokens base skip (m - 1) at (eq-eqb (base + at) skip h)
+      ∙ ap (λ (n : ℕ). visits ar ts tokens base skip (m - 1) (at + n)) (sym e)
 
-  pub visit_node : (p ≡ skip → ⊥) → visits ar ts tokens base skip (n - k) at ≡ node ts p ∷ visits ar ts tokens base skip (n - (k + 1)) (at + d)
+  pub visit_node : (base + at ≡ skip → ⊥) → visits ar ts tokens base skip m at ≡ node ts (base + at) ∷ visits ar ts tokens base skip (m - 1) (at + d)
   visit_node h =
-      ap (λ (m : ℕ). visits ar ts tokens base skip m at) less
-      ∙ visits_node ar ts tokens base skip (n - (k + 1)) at (ne_eqb (base + at) skip (λ z. h (q ∙ z)))
-      ∙ ap₂ (λ (x : ℕ) (m : ℕ). node ts x ∷ visits ar ts tokens base skip (n - (k + 1)) (at + m)) (sym q) (sym e)
+      ap (λ (n : ℕ). visits ar ts tokens base skip n at) less
+      ∙ visits_node ar ts tokens base skip (m - 1) at (ne_eqb (base + at) skip h)
+      ∙ ap (λ (n : ℕ). node ts (base + at) ∷ visits ar ts tokens base skip (m - 1) (at + n)) (sym e)
 
-pub visit_none : (ar : ℕ → ℕ) (ts tokens : List ℕ) (base skip n k at : ℕ) → n ≤ k → visits ar ts tokens base skip (n - k) at ≡ []
+pub visit_none : (ar : ℕ → ℕ) (ts tokens : List ℕ) (base skip at : ℕ) → visits ar ts tokens base skip 0 at ≡ []
 unfolding visits
-visit_none ar ts tokens base skip n k at l = ap (λ (m : ℕ). visits ar ts tokens base skip m at) (let z : n - k ≡ 0 = omega arith in z)
+visit_none ar ts tokens base skip at = refl
 
 -- ---- the loop's turns
 module _ (sy ts s : List ℕ) (T hyps : ℕ) where

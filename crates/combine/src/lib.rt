@@ -17,8 +17,8 @@ ghost use Rattle.combine.specs.Numbers.{Naming, Named, Numbered};
 ghost use Rattle.combine.specs.Settle.{Numberable, Writable};
 ghost use Rattle.combine.specs.Final.{Combinable, Combines, CombinationIs};
 
-use records::rules::tokens;
-use terms::{fact_start, span, with};
+use records::parts::byte_at;
+use terms::{Facts, with};
 use unify::{Classes, FIRST_VARIABLE, Pair};
 
 /// The rule does not fit: more hypotheses, tokens or variables than allowed.
@@ -168,17 +168,13 @@ impl<'a, 'b> Draft<'a, 'b> {
     // Adds the hypotheses of a record but for the one at `skip`; the place p of its tokens is base + p.
     fn add_side(&mut self, rec: &[u8], base: usize, skip: usize) -> Result<(), TooLarge>
         requires held { (ns : List ℕ) × Holds self.old ns }
-        requires counted { 0 < length rec.now }
         requires inside { base + length (tokens_of rec.now) ≤ 2 * self.old.of.classes.pair.toks }
         ensures same { IsSameRoom self.old self.new }
         ensures left { (ns : List ℕ) → Holds self.old ns → Leaves self.old self.new (ns ++ side_of self.old.of rec.now base skip) result }
     {
-        let symbols = self.of.classes.pair.symbols;
-        let tokens = tokens(rec);
-        let mut at = fact_start(symbols, tokens, 1);
-        for _ in 0..rec[0] {
+        let facts = Facts::of_record(self.of.classes.pair.symbols, rec);
+        for (at, _) in facts.walk(1, usize::from(byte_at(rec, 0))) {
             let place = base + at;
-            at += span(symbols, tokens, at, 1);
             if place == skip {
                 continue;
             }
