@@ -1,5 +1,5 @@
 -- The laws of Built at a draft: what the steps of the code leave. Assumes nothing.
-use Rattle.std.proofs.Common.{ℕ, ◌+◌, ◌-◌, ◌*◌, ◌≤◌, ◌<◌, ◌≡◌, Bool, true, false, List, [], ◌∷◌, ◌++◌, length, take, drop, set, get_or, refl, ap, ap₂, sym, subst, arith, ◌∙◌, Result, Ok, Err, Option, Some, None}
+use Rattle.std.proofs.Common.{ℕ, ◌+◌, ◌-◌, ◌*◌, ◌≤◌, ◌<◌, ◌≡◌, Bool, true, false, List, [], ◌∷◌, ◌++◌, length, take, drop, set, refl, ap, ap₂, sym, subst, arith, ◌∙◌, Result, Ok, Err, Option, Some, None}
 use Rattle.std.specs.Prelude.{All}
 use Rattle.records.specs.Tokens.{span}
 use Rattle.records.specs.Symbols.{arity_of}
@@ -18,7 +18,7 @@ use Rattle.std.specs.Borrow.{Bor}
 use Rattle.combine.specs.Copies.{Says, Copy, has_copy}
 use Rattle.combine.specs.Built.{Built, Over, start_long, start_fits, add_long, copy_here, copy_short, copy_before, add_copy, add_large, add_many, add_kept}
 use Rattle.combine.specs.Draft.{both_of, node_of, side_of, HoldsIn, Holds, LeavesIn, Leaves, IsSameRoom, IsWritten}
-use Rattle.combine.specs.Places.{visits, Along, along_start, along_skip, along_went, along_over, along_end, visit_skip, visit_node, visit_none}
+use Rattle.combine.specs.Places.{visits, Along, along_skip, along_went, along_over, along_end, visit_skip, visit_node, visit_none}
 use Rattle.combine.specs.Settle.{Settled}
 use Rattle.combine.proofs.Laws.{has_copy_says}
 
@@ -130,17 +130,6 @@ module _ (of : Instances) (hyps : ℕ) (rec : List ℕ) (base skip : ℕ) where
     pub symbols : w.facts.symbols.now ≡ of.classes.pair.symbols.now
     pub tokens : w.facts.tokens.now ≡ tokens_of rec
     pub along : Along of.classes.pair.symbols.now (both_of of) of.classes.rep.now of.classes.pair.toks hyps d.text.now d.starts.now d.end d.count (side_of of rec base skip) (rest w.left w.at) ns
-
-  pub going_start : (d : Draft) (w : Walk) → w.facts.symbols.now ≡ of.classes.pair.symbols.now → w.facts.tokens.now ≡ tokens_of rec → w.at ≡ span (arity_of w.facts.symbols.now) 1 w.facts.tokens.now → w.left ≡ get_or rec 0 0
-      → (ns : List ℕ) → HoldsIn of hyps d ns → Going d w ns
-  going_start d w es et ea el ns h =
-      record {
-        symbols = es;
-        tokens = et;
-        along =
-            along_start of.classes.pair.symbols.now (both_of of) of.classes.rep.now of.classes.pair.toks hyps d.text.now d.starts.now d.end d.count (side_of of rec base skip) (rest w.left w.at) ns
-            (sym (ap₂ (λ (m n : ℕ). rest m n) el (ea ∙ ap₂ (λ (s t : List ℕ). span (arity_of s) 1 t) es et))) h;
-      }
 
   pub going_end : (d : Draft) (w v : Walk) → WalkSteps w None v → (ns : List ℕ) → Going d w ns → HoldsIn of hyps d (ns ++ side_of of rec base skip)
   going_end d w v t ns g =

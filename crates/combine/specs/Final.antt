@@ -9,7 +9,7 @@ use mathlib.Core.List.{List, [], ◌∷◌, ◌++◌, map}
 use Rattle.std.proofs.Math.Path.{refl, ap, ap₂, sym, subst}
 use Rattle.std.proofs.Math.Dec.{eqb}
 use Rattle.std.proofs.Math.ListN.{drop}
-use Rattle.std.proofs.lemmas.List.{drop-append-le}
+use Rattle.std.proofs.lemmas.List.{drop-append-le, map-append}
 use Rattle.std.proofs.lemmas.Bool.{eqb-false}
 use Rattle.model.specs.Term.{Term, var, sub, size}
 use Rattle.model.specs.Rule.{Rule, Limits, fits, nth, without, left, right, sub_rule, normal, drop_copies, renumber, vars_of, size_all, combine}
@@ -186,14 +186,6 @@ in_room T rec x t u l e =
           ∙ sym (leaves_append t u more),
     )
 
-map_append : (f : ℕ → Term) (a b : List ℕ) → map f (a ++ b) ≡ map f a ++ map f b
-map_append f [] b = refl
-map_append f (x ∷ a) b = ap (f x ∷◌) (map_append f a b)
-
-map_append_terms : (f : Term → Term) (a b : List Term) → map f (a ++ b) ≡ map f a ++ map f b
-map_append_terms f [] b = refl
-map_append_terms f (x ∷ a) b = ap (f x ∷◌) (map_append_terms f a b)
-
 map_of_map : (g : Term → Term) (f : ℕ → Term) (l : List ℕ) → map (λ x. g (f x)) l ≡ map g (map f l)
 map_of_map g f [] = refl
 map_of_map g f (x ∷ l) = ap (g (f x) ∷◌) (map_of_map g f l)
@@ -292,7 +284,7 @@ module _ (sy : List ℕ) (T hyps vars at : ℕ) (a b s o starts names rec : List
 
   all_trees : map G.tree (all_nodes sy T a b at) ≡ (parts r r' k).concl ∷ (parts r r' k).hyps
   unfolding all_nodes parts
-  all_trees = ap₂ ◌∷◌ tree_c (map_append G.tree (visits (arity_of sy) ts (tokens_of a) 0 (T + at) (get_or a 0 0) (span (arity_of sy) 1 (tokens_of a))) (visits (arity_of sy) ts (tokens_of b) T (T + at) (get_or b 0 0) (span (arity_of sy) 1 (tokens_of b))) ∙ ap₂ ◌++◌ trees_a trees_b)
+  all_trees = ap₂ ◌∷◌ tree_c (map-append G.tree (visits (arity_of sy) ts (tokens_of a) 0 (T + at) (get_or a 0 0) (span (arity_of sy) 1 (tokens_of a))) (visits (arity_of sy) ts (tokens_of b) T (T + at) (get_or b 0 0) (span (arity_of sy) 1 (tokens_of b))) ∙ ap₂ ◌++◌ trees_a trees_b)
 
   fill : (l : List ℕ) → ReadsAll G s l (map (λ i. sub μ (G.tree i)) l)
   fill [] = rnil

@@ -52,9 +52,6 @@ visit_none ar ts tokens base skip at = refl
 
 -- ---- the loop's turns
 module _ (sy ts s : List ℕ) (T hyps : ℕ) where
-  pub along_start : (o starts : List ℕ) (e n : ℕ) (all rest ns : List ℕ) → all ≡ rest → Built sy ts s T hyps o starts e n ns → Along sy ts s T hyps o starts e n all rest ns
-  along_start o starts e n all rest ns q B = record { nodes = ns; built = B; whole = ap (ns ++◌) q }
-
   pub along_skip : (o starts : List ℕ) (e n : ℕ) (all rest rest' ns : List ℕ) → rest ≡ rest' → Along sy ts s T hyps o starts e n all rest ns → Along sy ts s T hyps o starts e n all rest' ns
   along_skip o starts e n all rest rest' ns q A = record { nodes = A.nodes; built = A.built; whole = A.whole ∙ ap (A.nodes ++◌) q }
 

@@ -136,10 +136,9 @@ impl<'a, 'b> Draft<'a, 'b> {
         requires before { All (λ s. s ≤ p) (take self.now.count self.now.starts.now) }
         ensures { result ≡ has_copy self.now.text.now (take self.now.count self.now.starts.now) p n }
     {
-        let text = &*self.text;
         self.starts[..self.count].iter().any(|&s| {
             let from = usize::from(s);
-            text[from..from + n] == text[p..p + n]
+            self.text[from..from + n] == self.text[p..p + n]
         })
     }
 
