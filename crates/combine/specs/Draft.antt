@@ -4,7 +4,8 @@ use Rattle.records.specs.Tokens.{span}
 use Rattle.records.specs.Symbols.{arity_of}
 use Rattle.records.specs.Rules.{tokens_of}
 use Rattle.unify.specs.Facts.{facts}
-use Rattle.unify.specs.Nodes.{node}
+use Rattle.unify.specs.Closure.{Graph}
+use Rattle.unify.specs.Nodes.{node, graph}
 use Rattle.combine.specs.declared.Instances.{Instances}
 use Rattle.combine.specs.declared.Draft.{Draft}
 use Rattle.combine.specs.declared.TooLarge.{TooLarge}
@@ -15,6 +16,10 @@ use Rattle.combine.specs.Settle.{all_nodes, Settled}
 -- The tokens of both records.
 abbrev pub both_of : Instances → List ℕ
 both_of of = facts of.classes.pair.toks of.classes.pair.a.now of.classes.pair.b.now
+
+-- Their nodes.
+abbrev pub graph_of : Instances → Graph
+graph_of of = graph of.classes.pair.symbols.now (both_of of)
 
 -- The node of the fact at a place.
 abbrev pub node_of : Instances → ℕ → ℕ

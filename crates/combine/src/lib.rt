@@ -6,7 +6,7 @@ ghost use Rattle.std.specs.Int.Count.{count_trailing_zeros};
 ghost use Rattle.model.specs.Term.{Term};
 ghost use Rattle.model.specs.Rule.{Rule};
 ghost use Rattle.records.specs.Rules.{tokens_of};
-ghost use Rattle.unify.specs.Nodes.{node, graph};
+ghost use Rattle.unify.specs.Nodes.{graph};
 ghost use Rattle.unify.specs.Facts.{facts, Given};
 ghost use Rattle.unify.specs.Solve.{Solved};
 ghost use Rattle.unify.specs.Writer.{Writes};
@@ -44,7 +44,9 @@ struct Draft<'a, 'b> {
 }
 
 impl<'a> Instances<'a> {
-    // From the parts of a pair: that each token is a byte is known of a slice that is passed, and not of one in a struct.
+    ghost use Rattle.combine.specs.Draft.{graph_of, node_of};
+
+    // Takes the parts of a pair, since that each token is a byte is known of a slice that is passed, and not of one in a struct.
     fn new(symbols: &'a [u8], a: &'a [u8], b: &'a [u8], toks: usize, rep: &'a [u16]) -> Self
         requires given { Given toks a.now b.now }
         requires solved { (p : ℕ) × ((q : ℕ) × Solved (graph symbols.now (facts toks a.now b.now)) p q rep.now) }
@@ -65,7 +67,7 @@ impl<'a> Instances<'a> {
     // Writes the codes of the instance of the fact at a place, and returns their number.
     fn write(&self, place: usize, out: &mut [u16]) -> Result<usize, TooLarge>
         requires { place ≤ 2 * self.now.classes.pair.toks }
-        ensures { let pair = self.now.classes.pair in let ts = facts pair.toks pair.a.now pair.b.now in Writes (graph pair.symbols.now ts) self.now.classes.rep.now (node ts place) out.new (result_ok result) }
+        ensures { Writes (graph_of self.now) self.now.classes.rep.now (node_of self.now place) out.new (result_ok result) }
     {
         let node = self.classes.pair.node_at(place);
         self.classes.write(out, node).ok_or(TooLarge)
@@ -95,7 +97,7 @@ fn name(names: &mut [u8], x: usize, set: u32, vars: usize) -> Result<u32, TooLar
     Ok(with(set, v))
 }
 
-// Writes the tokens of a text behind the counts, its variables numbered by first appearance; none where there are more than `vars`.
+// Writes the tokens of a text behind the counts, its variables numbered by first appearance, unless there are more than `vars`.
 fn number(text: &[u16], vars: usize, names: &mut [u8], rec: &mut [u8]) -> Result<(), TooLarge>
     requires { Numberable text.now vars names.old rec.old }
     ensures { Numbered text.now vars rec.old rec.new (is_ok result) }
