@@ -20,6 +20,7 @@ pub fn agree(text: &[u8], n: usize, s: usize, p: usize) -> bool
 /// Do the tokens of a pattern match the text from the place `from` on, under the bindings?
 /// A binding is 0 for a free variable, else one more than the place of the term that it stands for.
 #[tactic(auto, using(crate::proofs::Laws::turns))]
+#[inline(always)]
 pub fn match_at(symbols: &[u8], pattern: &[u8], text: &[u8], from: usize, binds: &mut [u16]) -> bool
     requires { (from ≤ length text.now) × ((length text.now ≤ 65534) × (length binds.old ≡ 64)) }
     ensures { (result ≡ (matched (arity_of symbols.now) pattern.now text.now from binds.old).0)

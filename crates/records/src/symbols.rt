@@ -82,7 +82,10 @@ pub fn arity(symbols: &[u8], t: u8) -> usize
     if t < FIRST_SYMBOL {
         return 0;
     }
-    usize::from(byte_at(symbols, 16 * usize::from(t - FIRST_SYMBOL) + 1))
+    usize::from(byte_at(
+        symbols,
+        16 * (usize::from(t) - usize::from(FIRST_SYMBOL)) + 1,
+    ))
 }
 
 // Are these letters and digits, and then zeros?

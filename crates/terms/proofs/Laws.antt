@@ -9,7 +9,7 @@ use borrow.Author.Tests.{lt-ltb, le-ltb, eqb-true, eqb-false, eq-eqb, ne_eqb}
 use lib.Dec.{eqb, ltb}
 use lib.ListN.{length, take, drop, get_or, length-drop, length-take, drop_of_length-le}
 use lib.Seq.{drop-cons, drop-drop}
-use Rattle.std.proofs.lemmas.List.{drop_more}
+use Rattle.std.proofs.lemmas.List.{drop_more, take_all}
 use Rattle.model.specs.Term.{both}
 use Rattle.records.specs.Tokens.{span}
 use Rattle.records.specs.Symbols.{arity_of}
@@ -49,7 +49,11 @@ module _ (ar : ℕ → ℕ) where
   unfolding fact_at
   fact_is ts n a e h g = let d : a + e - a ≡ e = omega arith in rw (d, g, h)
 
-pub ruleset spans = (span_none, span_step, span_end)
+-- What a slice from a place on holds.
+pub slice_from : (s : List ℕ) (n : ℕ) → take (length s - n) (drop n s) ≡ drop n s
+slice_from s n = take_all (length s - n) (drop n s) (omega (arith, length-drop n s))
+
+pub ruleset spans = (span_none, span_step, span_end, slice_from)
 
 -- A record's count of tokens is a byte.
 pub tokens_length : (rec : List ℕ) → get_or rec 1 0 < 256 → length (tokens_of rec) < 256

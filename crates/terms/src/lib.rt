@@ -10,7 +10,7 @@ ghost use Rattle.terms.specs.Facts.{fact_at, hypothesis_of, open_bytes, base_ope
 ghost use Rattle.terms.specs.Vars.{with_var, with_vars, held_of, gap_from};
 
 use records::FIRST_SYMBOL;
-use records::parts::{byte_at, rest};
+use records::parts::byte_at;
 use records::rules::tokens;
 use records::symbols::arity;
 
@@ -48,7 +48,7 @@ impl<'s, 'a> Facts<'s, 'a> {
         ensures inside { from + result ≤ length self.now.tokens.now }
     {
         let mut need = n;
-        let rest = rest(self.tokens, from);
+        let rest = &self.tokens[from..];
         for (i, &t) in rest.iter().enumerate() {
             if need == 0 {
                 return i;
