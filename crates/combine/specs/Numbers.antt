@@ -254,21 +254,21 @@ pub record Partway (text old : List ℕ) (vars i : ℕ) (names rec : List ℕ) (
   pub naming : Naming (distinct [] (code_vars text)) names m vars (code_vars (drop i text))
   pub tokens : rec ≡ tokens_to (distinct [] (code_vars text)) text i old
 
-module _ (text old : List ℕ) (vars : ℕ) where
-  abbrev pub vs : List ℕ
+pub partway_start : (text old names : List ℕ) (vars : ℕ) → ((x : ℕ) → get_or names x 0 ≡ 0) → Partway text old vars 0 names old 0
+partway_start text old names vars z = record { naming = naming_start names vars (code_vars text) z; tokens = tokens_start (distinct [] (code_vars text)) text old }
+
+module _ {text old : List ℕ} {vars i : ℕ} {names rec : List ℕ} {m : ℕ} (P : Partway text old vars i names rec m) where
+  abbrev vs : List ℕ
   vs = distinct [] (code_vars text)
 
-  pub partway_start : (names : List ℕ) → ((x : ℕ) → get_or names x 0 ≡ 0) → Partway text old vars 0 names old 0
-  partway_start names z = record { naming = naming_start names vars (code_vars text) z; tokens = tokens_start vs text old }
-
-  pub partway_end : (i : ℕ) (names rec : List ℕ) (m : ℕ) → i ≡ length text → Partway text old vars i names rec m → Numbered text vars old rec true
-  partway_end i names rec m e P =
+  pub partway_end : i ≡ length text → Numbered text vars old rec true
+  partway_end e =
       let none : code_vars (drop i text) ≡ [] = ap code_vars (drop_all i text (omega arith)) ∙ (unfold code_vars in refl) in (
         naming_end vs names m vars (naming_rest vs names m vars _ [] none P.naming),
         P.tokens ∙ ap (λ (n : ℕ). tokens_to vs text n old) e ∙ ap (λ (x : List ℕ). (take 2 old ++ map (token vs) x) ++ drop (length text + 2) old) (take-length text),
       )
 
-  module _ (i : ℕ) (lr : length text + 2 ≤ length old) (l : i < length text) (names rec : List ℕ) (m c : ℕ) (is : c ≡ get_or text i 0) (P : Partway text old vars i names rec m) where
+  module _ (lr : length text + 2 ≤ length old) (l : i < length text) {c : ℕ} (is : c ≡ get_or text i 0) where
     -- a symbol's token stands as it is
     pub partway_low : c < 256 → Partway text old vars (i + 1) names (set rec (i + 2) c) m
     partway_low h =
@@ -278,11 +278,18 @@ module _ (text old : List ℕ) (vars : ℕ) where
         }
 
     module _ (h : 256 ≤ c) where
-      -- a variable is to be named
-      pub partway_name : Naming vs names m vars ((c - 256) ∷ code_vars (drop (i + 1) text))
-      partway_name = naming_high vs text old i lr l names m vars c is h P.naming
+      abbrev rest : List ℕ
+      rest = code_vars (drop (i + 1) text)
 
-      -- a variable's name stands in its place
-      pub partway_high : (names' : List ℕ) (m' : ℕ) → Named vs names' (c - 256) vars (code_vars (drop (i + 1) text)) (Ok m') → Partway text old vars (i + 1) names' (set rec (i + 2) (get_or names' (c - 256) 0)) m'
-      partway_high names' m' N =
-          record { naming = N.0; tokens = tokens_next vs text old i lr l rec (get_or names' (c - 256) 0) P.tokens (as_high vs text old i lr l c (get_or names' (c - 256) 0) is h N.1) }
+      named : Naming vs names m vars ((c - 256) ∷ rest)
+      named = naming_high vs text old i lr l names m vars c is h P.naming
+
+      -- a variable's name stands in its place, unless no number is left for it
+      pub partway_high : {names' : List ℕ} {m' : ℕ} → ((ws us : List ℕ) → Naming ws names m vars ((c - 256) ∷ us) → Named ws names' (c - 256) vars us (Ok m'))
+          → Partway text old vars (i + 1) names' (set rec (i + 2) (get_or names' (c - 256) 0)) m'
+      partway_high {names'} {m'} N =
+          let w = N vs rest named in
+          record { naming = w.0; tokens = tokens_next vs text old i lr l rec (get_or names' (c - 256) 0) P.tokens (as_high vs text old i lr l c (get_or names' (c - 256) 0) is h w.1) }
+
+      pub partway_full : (names' new : List ℕ) (e : TooLarge) → ((ws us : List ℕ) → Naming ws names m vars ((c - 256) ∷ us) → Named ws names' (c - 256) vars us (Err e)) → Numbered text vars old new false
+      partway_full names' new e N = N vs rest named
