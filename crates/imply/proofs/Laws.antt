@@ -15,7 +15,6 @@ use Rattle.model.specs.Term.{both}
 use Rattle.theory.specs.Basics.{true≢false}
 use Rattle.records.specs.Symbols.{arity_of}
 use Rattle.records.specs.Tokens.{span}
-use Rattle.records.specs.TokenLaws.{span_add}
 use Rattle.records.specs.Rules.{tokens_of}
 use Rattle.records.proofs.Laws.{less}
 use Rattle.terms.specs.Facts.{fact_at, hypothesis_of}
@@ -174,20 +173,35 @@ module _ (sy r q : List ℕ) where
   unfolding implies_bytes
   implies_many l = onward_none _ _ (λ b. carried_many (arity_of sy) (tokens_of r) (tokens_of q) (get_or q 0 0) (get_or r 0 0) 0 0 b (omega (arith, frees_le 0 0 (get_or q 0 0))))
 
--- ---- a walk over the facts of a record's tokens
-pub span_next : (ar : ℕ → ℕ) (text : List ℕ) (n : ℕ) → span ar 1 (drop (span ar n text) text) + span ar n text ≡ span ar (n + 1) text
-span_next ar text n = omega (arith, span_add ar n 1 text)
+-- ---- one of several numbers, the first by itself
+pub any_hit : (f : ℕ → Bool) (j n : ℕ) → 0 < n → f j ≡ true → any f j n ≡ true
+unfolding any
+any_hit f j zero h e = absurd (omega arith)
+any_hit f j (suc n) h e = rw (any, e)
+
+pub any_on : (f : ℕ → Bool) (j n : ℕ) → 0 < n → f j ≡ false → any f j n ≡ any f (j + 1) (n - 1)
+unfolding any
+any_on f j zero h e = absurd (omega arith)
+any_on f j (suc n) h e = let k : suc n - 1 ≡ n = omega arith in rw (any, e, any, add-one, k)
+
+pub any_over : (f : ℕ → Bool) (j n : ℕ) → n ≡ 0 → any f j n ≡ false
+unfolding any
+any_over f j n h = rw h
 
 -- ---- is there a place in q for a fact
 -- Does a fact go into hypothesis j of q?
 unfoldable pub fits : List ℕ → List ℕ → List ℕ → ℕ → Bool
 fits sy q f j = may_match f (tokens_of q) (span (arity_of sy) (suc j) (tokens_of q))
 
-pub place_start : (sy q f : List ℕ) (m : ℕ) → m ≡ get_or q 0 0 → has_place (arity_of sy) (tokens_of q) (get_or q 0 0) f ≡ any (fits sy q f) 0 (m - 0)
+pub place_start : (sy q f : List ℕ) → has_place (arity_of sy) (tokens_of q) (get_or q 0 0) f ≡ any (fits sy q f) 0 (get_or q 0 0)
 unfolding has_place fits
-place_start sy q f m e = let z : m - 0 ≡ get_or q 0 0 = omega arith in rw z
+place_start sy q f = refl
 
-pub ruleset places = (span_next, place_start, less, add-one)
+pub fits_at : (sy q f : List ℕ) (j i : ℕ) → i ≡ j + 1 → fits sy q f j ≡ may_match f (tokens_of q) (span (arity_of sy) i (tokens_of q))
+unfolding fits
+fits_at sy q f j i e = rw (e, add-one)
+
+pub ruleset places = (place_start, fits_at, any_hit, any_on, any_over)
 
 pub ruleset counts = (lt-leb, le-leb)
 
@@ -207,9 +221,9 @@ module _ (sy r q : List ℕ) (k u : ℕ) (b : List ℕ) where
   unfolding carried
   carry_done h = let e : get_or r 0 0 - k ≡ 0 = omega arith in rw e
 
-  pub carry_start : (m : ℕ) → m ≡ get_or q 0 0 → k < get_or r 0 0 → carried ar (tokens_of r) (tokens_of q) (get_or q 0 0) k (get_or r 0 0 - k) u b ≡ any (way sy r q k u b) 0 (m - 0)
+  pub carry_start : (m : ℕ) → m ≡ get_or q 0 0 → k < get_or r 0 0 → carried ar (tokens_of r) (tokens_of q) (get_or q 0 0) k (get_or r 0 0 - k) u b ≡ any (way sy r q k u b) 0 m
   unfolding carried way
-  carry_start m e h = let z : m - 0 ≡ get_or q 0 0 = omega arith in rw (z, less (get_or r 0 0) k h, add-one, way)
+  carry_start m e h = rw (e, less (get_or r 0 0) k h, add-one, way)
 
   module _ (j : ℕ) where
     -- The tokens of hypothesis k against those of hypothesis j.
@@ -235,7 +249,7 @@ module _ (sy r q : List ℕ) (k u : ℕ) (b : List ℕ) where
     unfolding way
     way_on e f = into_on ar (tokens_of r) (tokens_of q) k u b rest j e ∙ ap (λ (x : Bool × List ℕ). onward x (rest (used_by u j))) got_is ∙ onward_yes got (rest (used_by u j)) f
 
-pub ruleset ways = (span_next, less, add-one, carry_done, carry_start, way_used, way_unmatched, way_other, way_on)
+pub ruleset ways = (carry_done, carry_start, way_used, way_unmatched, way_other, way_on, any_hit, any_on, any_over)
 
 -- ---- one record against another
 module _ (sy r q : List ℕ) where
@@ -253,13 +267,8 @@ module _ (sy r q : List ℕ) where
       go false h f = implies_many sy r q (leb-false (get_or r 0 0) (get_or q 0 0) h)
 
 -- ---- the first live record that implies q
--- The fact at the walk's place.
-pub fact_here : (ar : ℕ → ℕ) (ts : List ℕ) (n s : ℕ) → s ≡ span ar 1 (drop (span ar n ts) ts) → take s (drop (span ar n ts) ts) ≡ fact_at ar n ts
-unfolding fact_at
-fact_here ar ts n s e = rw e
-
-pub implies_stuck : (sy r q : List ℕ) (j : ℕ) → has_place (arity_of sy) (tokens_of q) (get_or q 0 0) (fact_at (arity_of sy) (j + 1) (tokens_of r)) ≡ false → j < get_or r 0 0 → implies_bytes sy r q ≡ false
-implies_stuck sy r q j e h = implies_placeless sy r q j h (rw (← add-one j) e)
+pub implies_stuck : (sy r q : List ℕ) (n : ℕ) → has_place (arity_of sy) (tokens_of q) (get_or q 0 0) (fact_at (arity_of sy) n (tokens_of r)) ≡ false → 1 ≤ n → n ≤ get_or r 0 0 → implies_bytes sy r q ≡ false
+implies_stuck sy r q n e l h = let m : suc (n - 1) ≡ n = omega arith in implies_placeless sy r q (n - 1) (omega arith) (rw m e)
 
 pub scan_end : (sy q table : List ℕ) (T n i : ℕ) → (0 < n → length table ≡ 0) → first_bytes sy T q n i table ≡ none
 unfolding first_bytes
@@ -294,4 +303,4 @@ module _ (sy q rec rest : List ℕ) (T n i : ℕ) (e : length rec ≡ min (T + 8
       ∙ ap₂ (λ (x : ℕ) (l : List ℕ). pick (eqb x 1) (implies_bytes sy l q) (first_bytes sy T q n (suc i) (drop (T + 8) (rec ++ rest)))) (chunk_byte (T + 8) rec rest e (T + 2) (omega arith)) (chunk_take (T + 8) rec rest e)
       ∙ ap₂ (λ (k : ℕ) (l : List ℕ). pick (eqb (get_or rec (T + 2) 0) 1) (implies_bytes sy rec q) (first_bytes sy T q n k l)) (sym (add-one i)) (chunk_drop (T + 8) rec rest e)
 
-pub ruleset scans = (span_next, fact_here, implies_cheap, implies_stuck, scan_end, scan_next, eq-eqb, ne_eqb)
+pub ruleset scans = (implies_cheap, implies_stuck, scan_end, scan_next, eq-eqb, ne_eqb)

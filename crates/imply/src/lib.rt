@@ -69,7 +69,7 @@ pub struct Target<'a> {
 
 impl<'a> Target<'a> {
     // Do the hypotheses of r from hypothesis k on go one to one into those that are not used, under the bindings?
-    #[tactic(auto, using(crate::proofs::Laws::ways), unfolding(crate::specs::Imply::any))]
+    #[tactic(auto, using(crate::proofs::Laws::ways))]
     fn carried(&self, r: &[u8], k: usize, used: u32, binds: [u16; 64]) -> bool
         ensures { result ≡ carried_by (arity_of self.now.symbols.now) (tokens_of r.now) (tokens_of self.now.record.now) (get_or self.now.record.now 0 0) k (get_or r.now 0 0 - k) used binds }
     {
@@ -79,10 +79,8 @@ impl<'a> Target<'a> {
         }
         let hyp = terms::hypothesis(symbols, r, k);
         let own = Facts::of_record(symbols, record);
-        let mut next = own.start(1);
-        for j in 0..u32::from(hypotheses(record)) {
-            let at = next;
-            next += own.span(at, 1);
+        for (j, (at, _)) in own.walk(1, usize::from(hypotheses(record))).enumerate() {
+            let j = j as u32;
             if !is_free(used, j) || !may_match(hyp, own.tokens, at) {
                 continue;
             }
@@ -125,17 +123,15 @@ impl<'a> Target<'a> {
     }
 
     // May a fact match one of the hypotheses?
-    #[tactic(auto, using(crate::proofs::Laws::places), unfolding(crate::specs::Imply::any, crate::proofs::Laws::fits))]
+    #[tactic(auto, using(crate::proofs::Laws::places), unfolding(crate::proofs::Laws::fits))]
     fn has_place(&self, fact: &[u8]) -> bool
         ensures { result ≡ has_place (arity_of self.now.symbols.now) (tokens_of self.now.record.now) (get_or self.now.record.now 0 0) fact.now }
     {
         let own = Facts::of_record(self.symbols, self.record);
-        let mut at = own.start(1);
-        for _ in 0..hypotheses(self.record) {
+        for (at, _) in own.walk(1, usize::from(hypotheses(self.record))) {
             if may_match(fact, own.tokens, at) {
                 return true;
             }
-            at += own.span(at, 1);
         }
         false
     }
@@ -160,13 +156,10 @@ impl<'a> Target<'a> {
             }
             // Each hypothesis needs a place in the target; once all have one, the full test decides.
             let facts = Facts::of_record(self.symbols, rec);
-            let mut at = facts.start(1);
-            for _ in 0..hypotheses(rec) {
-                let end = at + facts.span(at, 1);
-                if !self.has_place(&facts.tokens[at..end]) {
+            for (_, fact) in facts.walk(1, usize::from(hypotheses(rec))) {
+                if !self.has_place(fact) {
                     continue 'scan;
                 }
-                at = end;
             }
             if self.implied_by(rec) {
                 break 'scan Some(number);

@@ -12,6 +12,7 @@ use lib.Seq.{drop-cons, drop-drop}
 use Rattle.std.proofs.lemmas.List.{drop_more, take_all}
 use Rattle.model.specs.Term.{both}
 use Rattle.records.specs.Tokens.{span}
+use Rattle.records.specs.TokenLaws.{span_add}
 use Rattle.records.specs.Symbols.{arity_of}
 use Rattle.records.specs.Rules.{tokens_of}
 use Rattle.std.specs.Prelude.{Some, None}
@@ -19,7 +20,7 @@ use Rattle.std.specs.Borrow.{Bor}
 use Rattle.terms.specs.declared.Walk.{Walk}
 use Rattle.terms.specs.Walk.{Steps}
 use Rattle.terms.specs.OpenLaws.{open_long}
-use Rattle.terms.specs.Facts.{fact_at, hypothesis_of, open_bytes, base_open, all_open_bytes, hypotheses_open}
+use Rattle.terms.specs.Facts.{facts_from, fact_at, hypothesis_of, open_bytes, base_open, all_open_bytes, hypotheses_open}
 
 module _ (ar : ℕ → ℕ) where
   pub span_none : (l : List ℕ) → span ar 0 l ≡ 0
@@ -48,6 +49,12 @@ module _ (ar : ℕ → ℕ) where
   pub fact_is : (ts : List ℕ) (n a e : ℕ) → a ≡ span ar n ts → e ≡ span ar 1 (drop a ts) → take (a + e - a) (drop a ts) ≡ fact_at ar n ts
   unfolding fact_at
   fact_is ts n a e h g = let d : a + e - a ≡ e = omega arith in rw (d, g, h)
+
+-- The next fact begins where one ends.
+pub span_next : (ar : ℕ → ℕ) (ts : List ℕ) (n : ℕ) → span ar n ts + span ar 1 (drop (span ar n ts) ts) ≡ span ar (n + 1) ts
+span_next ar ts n = omega (arith, span_add ar n 1 ts)
+
+pub ruleset goes = (span_next, span_le, fact_is)
 
 -- What a slice from a place on holds.
 pub slice_from : (s : List ℕ) (n : ℕ) → take (length s - n) (drop n s) ≡ drop n s
@@ -104,11 +111,15 @@ module _ (o : ℕ → Bool) where
 
   -- One turn of a walk, from w to v by the fact f, and its end.
   abbrev pub rest_open : Walk → Bool
-  rest_open w = all_open_bytes o (arity_of w.facts.symbols.now) w.left (drop w.at w.facts.tokens.now)
+  rest_open w = all_open_bytes o (arity_of w.facts.symbols.now) w.left (facts_from (arity_of w.facts.symbols.now) w.next w.facts.tokens.now)
 
   module _ (w v : Walk) where
     turn : (f : ℕ × Bor (List ℕ)) → Steps w (Some f) v → rest_open w ≡ both (open_bytes o f.1.now) (rest_open v)
-    turn f t = rw (t.2, t.3, t.4, t.5, ← drop-drop) (one_more (arity_of w.facts.symbols.now) w.left (drop w.at w.facts.tokens.now) t.0)
+    unfolding fact_at
+    turn f t =
+        let ar = arity_of w.facts.symbols.now in
+        let ts = w.facts.tokens.now in
+        rw (t.2, t.3, t.4, t.5, ← span_next ar ts w.next, ← drop-drop) (one_more ar w.left (facts_from ar w.next ts) t.0)
 
     pub open_yes : (f : ℕ × Bor (List ℕ)) → Steps w (Some f) v → open_bytes o f.1.now ≡ true → rest_open w ≡ rest_open v
     unfolding both
@@ -123,10 +134,9 @@ module _ (o : ℕ → Bool) where
     open_end t = rw t.0
 
 -- The walk over the hypotheses of a record.
-pub hypotheses_start : (sy rec ts : List ℕ) (at : ℕ) → ts ≡ tokens_of rec → at ≡ span (arity_of sy) 1 ts
-    → hypotheses_open sy rec ≡ all_open_bytes (base_open sy) (arity_of sy) (get_or rec 0 0) (drop at ts)
+pub hypotheses_start : (sy rec ts : List ℕ) (n : ℕ) → ts ≡ tokens_of rec → n ≡ get_or rec 0 0 → hypotheses_open sy rec ≡ all_open_bytes (base_open sy) (arity_of sy) n (facts_from (arity_of sy) 1 ts)
 unfolding hypotheses_open
-hypotheses_start sy rec ts at t h = rw (h, t)
+hypotheses_start sy rec ts n t h = rw (h, t)
 
 -- A list from a place on: its first token and what is behind it, or nothing.
 pub ruleset walk = (drop_more, drop_of_length-le)

@@ -60,13 +60,14 @@ impl<'s, 'a> Facts<'s, 'a> {
 
     /// The n facts from fact `first` on.
     pub fn walk(&self, first: usize, n: usize) -> Walk<'s, 'a>
-        requires { first ≤ 4096 }
-        ensures { (result.facts ≡ self.now) × (result.at ≡ span_of (arity_of self.now.symbols.now) first self.now.tokens.now) × (result.left ≡ n) }
+        requires { (first ≤ 4096) × (n ≤ 4096) }
+        ensures { (result.facts ≡ self.now) × ((result.next ≡ first) × (result.left ≡ n)) }
     {
         Walk {
             facts: *self,
-            at: self.start(first),
+            next: first,
             left: n,
+            at: self.start(first),
         }
     }
 
@@ -90,13 +91,16 @@ impl<'s, 'a> Facts<'s, 'a> {
     }
 }
 
-/// A walk over the next `left` facts, of which the first stands at the place `at`. It gives each fact's place and its very tokens.
+/// A walk over `left` facts from fact `next` on, which stands at the place `at`. It gives each fact's place and its very tokens.
 #[derive(Clone, Copy)]
 pub struct Walk<'s, 'a> {
     pub facts: Facts<'s, 'a>,
-    pub at: usize,
+    pub next: usize,
     pub left: usize,
+    pub at: usize,
+    pub ghost few: { next + left ≤ 8192 },
     pub ghost inside: { at ≤ length facts.tokens.now },
+    pub ghost here: { at ≡ span_of (arity_of facts.symbols.now) next facts.tokens.now },
 }
 
 impl<'s, 'a> Iterator for Walk<'s, 'a> {
@@ -109,6 +113,7 @@ impl<'s, 'a> Iterator for Walk<'s, 'a> {
 
     ghost remaining = { λ w. at_most w.left };
 
+    #[tactic(auto, using(crate::proofs::Laws::goes))]
     fn next(&mut self) -> Option<(usize, &'a [u8])> {
         if self.left == 0 {
             return None;
@@ -116,6 +121,7 @@ impl<'s, 'a> Iterator for Walk<'s, 'a> {
         let at = self.at;
         let end = at + self.facts.span(at, 1);
         self.at = end;
+        self.next += 1;
         self.left -= 1;
         Some((at, &self.facts.tokens[at..end]))
     }

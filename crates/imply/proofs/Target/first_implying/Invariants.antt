@@ -1,20 +1,23 @@
 -- `imply::Target::first_implying` meets its contract. The scan's invariant: the answer is that for the records that are left.
--- The inner loop's: `at` is the place of a hypothesis of a live record. Assumes nothing.
+-- The inner loop's: the walk stands at a hypothesis of a live record. Assumes nothing.
 use mathlib.Core.Path.{◌≡◌}
 use Prim.Native.Nat.{◌+◌, ◌≤◌}
-use lib.ListN.{length}
+use lib.ListN.{get_or}
 use Rattle.std.specs.Slice.Iter.{chunks_rest, chunks_size}
 use Rattle.std.specs.Iterator.Adapters.{take_source, take_count, enumerate_source, enumerate_count}
-use Rattle.records.specs.Symbols.{arity_of}
-use Rattle.records.specs.Tokens.{span}
+use Rattle.records.specs.Rules.{tokens_of}
 use Rattle.imply.specs.Imply.{first_bytes}
 use Rattle.imply.proofs.Target.first_implying.Given as goal
 
-abbrev pub invariant-loop : goal.invariant-loop
-invariant-loop l = record {
-  inside : l.at ≤ length l.facts.tokens.now;
-  place : l.at ≡ span (arity_of l.self.symbols.now) (l.counter + 1) l.facts.tokens.now;
-}
+abbrev pub invariant-loop-fact : goal.invariant-loop-fact
+invariant-loop-fact l =
+    let w = l.fact-iterator in
+    record {
+      table : w.facts.symbols.now ≡ l.self.symbols.now;
+      tokens : w.facts.tokens.now ≡ tokens_of l.rec;
+      from : 1 ≤ w.next;
+      many : w.next + w.left ≡ get_or l.rec 0 0 + 1;
+    }
 
 abbrev pub invariant-scan : goal.invariant-scan
 invariant-scan l = record {
