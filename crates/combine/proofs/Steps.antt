@@ -14,6 +14,7 @@ use Rattle.combine.specs.declared.TooLarge.{TooLarge}
 use Rattle.terms.specs.declared.Walk.{Walk}
 use Rattle.terms.specs.declared.Facts.{Facts}
 use Rattle.terms.specs.Walk.{Steps as WalkSteps}
+use Rattle.terms.proofs.Laws.{span_next}
 use Rattle.std.specs.Borrow.{Bor}
 use Rattle.combine.specs.Copies.{Says, Copy, has_copy}
 use Rattle.combine.specs.Built.{Built, Over, start_long, start_fits, add_long, copy_here, copy_short, copy_before, add_copy, add_large, add_many, add_kept}
@@ -144,9 +145,18 @@ module _ (of : Instances) (hyps : ℕ) (rec : List ℕ) (base skip : ℕ) where
     unfolding size
     sized = ap₂ (λ (s u : List ℕ). span (arity_of s) 1 (drop w.at u)) g.symbols g.tokens
 
-    next : rest (w.left - 1) (w.at + size) ≡ rest v.left v.at
+    moved : v.at ≡ w.at + size
     unfolding size
-    next = ap₂ (λ (m n : ℕ). rest m n) (sym t.5) (sym t.4)
+    moved =
+        let ar' = arity_of w.facts.symbols.now in
+        let ts = w.facts.tokens.now in
+        v.here
+        ∙ ap₂ (λ (x : Facts) (n : ℕ). span (arity_of x.symbols.now) n x.tokens.now) t.3 t.4
+        ∙ sym (span_next ar' ts w.next)
+        ∙ ap (λ (n : ℕ). n + span ar' 1 (drop n ts)) (sym w.here)
+
+    next : rest (w.left - 1) (w.at + size) ≡ rest v.left v.at
+    next = ap₂ (λ (m n : ℕ). rest m n) (sym t.5) (sym moved)
 
     still : v.facts.symbols.now ≡ of.classes.pair.symbols.now
     still = ap (λ (x : Facts). x.symbols.now) t.3 ∙ g.symbols
