@@ -1,11 +1,15 @@
 -- The text of the conclusion and the kept hypotheses as it grows fact by fact, and the laws that the code's proofs cite. Assumes nothing.
-use Rattle.std.specs.Prelude.{ℕ, zero, suc, ◌+◌, ◌*◌, ◌-◌, ◌≤◌, ◌<◌, Bool, ◌≡◌, refl, ◌⊎◌, take, get_or, set}
-use Rattle.std.proofs.Common.{arith, ◌∙◌, subst, inr, length-append, take_at, take-take, get_or-set_same, get_or-set_other}
+use Rattle.std.specs.Prelude.{ℕ, zero, suc, ◌+◌, ◌*◌, ◌≤◌, ◌<◌, Bool, ◌≡◌, refl, ◌⊎◌, take, get_or, set, drop, Result, Ok, Err, Some, None, All}
+use Rattle.std.proofs.Common.{arith, ◌∙◌, subst, inr, length-append, length-take, length-take-le, get_or-take, take_at, take-take, get_or-set_same, get_or-set_other}
 use Rattle.std.proofs.Math.Bool.{true, false}
 use mathlib.Core.List.{List, [], ◌∷◌, ◌++◌, append_assoc, append-nil}
 use Rattle.std.proofs.Math.Path.{ap, sym}
 use Rattle.std.proofs.Math.Logic.{inl}
 use Rattle.std.proofs.Math.ListN.{length}
+use Rattle.std.proofs.Math.Seq.{take-append-add}
+use Rattle.std.proofs.lemmas.List.{take-append-le}
+use borrow.Rule.Slice.PartMut.{put_mid}
+use Rattle.std.proofs.lemmas.List.Elements.{All-from_get_or}
 use Rattle.model.specs.Term.{Term, con, ◌·◌, size}
 use Rattle.model.specs.Rule.{among, firsts, size_all}
 use Rattle.records.specs.Tokens.{applied}
@@ -16,10 +20,8 @@ use Rattle.unify.specs.Read.{Reads, rvar, rsym, ReadsAll, rnil, rcons}
 use Rattle.unify.specs.Inside.{Read}
 use Rattle.unify.specs.Nodes.{graph, tok, args_in, args_length}
 use Rattle.unify.specs.Facts.{facts, Given, facts_length}
-use Rattle.unify.specs.Writer.{codes, codes_all, codes_size, codes_all_append, Writes, Wrote, Asked}
-use Rattle.combine.specs.declared.State.{State}
-use Rattle.combine.specs.declared.Added.{Added}
-use Rattle.combine.specs.declared.Added.TheVariants.{Went, TooLarge}
+use Rattle.unify.specs.Writer.{codes, codes_all, codes_size, codes_all_append, Writes, Wrote}
+use Rattle.combine.specs.declared.TooLarge.{TooLarge}
 use Rattle.combine.specs.Codes.{Keeps, kvar, kcon, kapp, KeepAll, keep_append, all_size}
 use Rattle.combine.specs.Copies.{Says, Copy, Marks, copy_says, firsts_old, firsts_new, more_size, more_count, among_size, size_all_append}
 
@@ -30,13 +32,6 @@ pub record Site (sy : List ℕ) (T : ℕ) (a b s : List ℕ) : Type 0 where
   pub len : length s ≡ 2 * T + 128
   pub bytes : (p : ℕ) → tok (facts T a b) p < 256
   pub reads : (i : ℕ) → Read (graph sy (facts T a b)) s i
-
--- The writer can be asked for the node n of a place x.
-pub site_asks :
-    (sy : List ℕ) (T : ℕ) (a b s o : List ℕ) (cap p n : ℕ) → Site sy T a b s → cap ≤ length o → p ≤ cap → n < 2 * T + 128
-    → Asked sy T (facts T a b) s cap o p n
-site_asks sy T a b s o cap p n S lo lp ln =
-    record { lt = facts_length T a b S.given; ls = S.len; lo = lo; down = S.down; ii = ln; ip = lp; read = S.reads n }
 
 -- ---- what is read keeps to the arities
 keep_applied : (sy : List ℕ) (t : Term) (us : List Term) → Keeps sy (length us) t → KeepAll sy us → Keeps sy 0 (applied t us)
@@ -93,23 +88,9 @@ pub record Over (sy ts s : List ℕ) (T hyps : ℕ) (ns : List ℕ) : Type 0 whe
   pub reads : ReadsAll (graph sy ts) s ns (concl ∷ done)
   pub over : (T < size concl + size_all (firsts [] done)) ⊎ (hyps < length (firsts [] done))
 
-abbrev pub Outcome : List ℕ → List ℕ → List ℕ → ℕ → ℕ → List ℕ → List ℕ → List ℕ → Added → Type 0
-Outcome sy ts s T hyps o starts ns (Went st) = Built sy ts s T hyps o starts st.end st.count ns
-Outcome sy ts s T hyps o starts ns TooLarge = Over sy ts s T hyps ns
-
--- What adding a fact needs.
-pub record Ready (sy : List ℕ) (T hyps : ℕ) (a b s o starts : List ℕ) (st : State) : Type 0 where
-  pub site : Site sy T a b s
-  pub room : hyps ≤ length starts
-  pub space : length o ≡ 2 * T
-  pub nodes : List ℕ
-  pub built : Built sy (facts T a b) s T hyps o starts st.end st.count nodes
-
--- What looking for a copy needs.
-pub record Bounded (o starts : List ℕ) (count p n : ℕ) : Type 0 where
-  pub here : p + n ≤ length o
-  pub many : count ≤ length starts
-  pub before : (j : ℕ) → j < count → get_or starts j 0 ≤ p
+abbrev pub Outcome : List ℕ → List ℕ → List ℕ → ℕ → ℕ → List ℕ → List ℕ → ℕ → ℕ → List ℕ → Result (Unit {0}) TooLarge → Type 0
+Outcome sy ts s T hyps o starts e n ns (Ok _) = Built sy ts s T hyps o starts e n ns
+Outcome sy ts s T hyps o starts e n ns (Err _) = Over sy ts s T hyps ns
 
 marks_le : (starts : List ℕ) (j p : ℕ) (K : List Term) → Marks starts j p K → (i : ℕ) → i < length K → get_or starts (j + i) 0 ≤ p + size_all K
 unfolding size_all
@@ -129,8 +110,18 @@ marks_set starts j p (u ∷ K) t e m l q =
       subst (λ (k : ℕ). Marks (set starts k e) (suc j) (p + size u) (K ++ (t ∷ []))) z (marks_set starts (suc j) (p + size u) K t e m.1 (omega arith) (omega arith)),
     )
 
+-- ---- the codes of one term behind what stands
+-- the text o, where w was written over the k places from e on, whose first n are the codes of a term
+put_codes : (o w : List ℕ) (e k n : ℕ) (l : List ℕ) → e ≤ length o → Wrote w (Some n) l → take (e + n) (put_mid e k o w) ≡ take e o ++ l
+put_codes o w e k n l h W =
+    let z : length (take e o) ≡ e = length-take-le e o h in
+    let y : n ≤ length w = omega (arith, W.0, ap length W.1, length-take n w) in
+    ap (λ (x : ℕ). take (x + n) (put_mid e k o w)) (sym z)
+    ∙ take-append-add (take e o) (w ++ drop k (drop e o)) n
+    ∙ ap (take e o ++◌) (take-append-le n w (drop k (drop e o)) y ∙ W.1)
+
 -- ---- the conclusion
-module _ (sy : List ℕ) (T : ℕ) (a b s : List ℕ) (S : Site sy T a b s) (o o' : List ℕ) (i j e : ℕ) (at : j ≡ i) (l : j < 2 * T + 128) (W : Writes (graph sy (facts T a b)) s j T o o' 0 e) where
+module _ (sy : List ℕ) (T : ℕ) (a b s : List ℕ) (S : Site sy T a b s) (i : ℕ) (l : i < 2 * T + 128) (o w : List ℕ) (room : length w ≡ T) where
   abbrev ts : List ℕ
   ts = facts T a b
 
@@ -141,152 +132,154 @@ module _ (sy : List ℕ) (T : ℕ) (a b s : List ℕ) (S : Site sy T a b s) (o o
   unfolding t
   r = (S.reads i).1
 
-  w : Wrote T o o' 0 e (codes t)
-  w = W t (subst (λ (k : ℕ). Reads (graph sy ts) s k t) (sym at) r)
-
-  pub start_long : T < e → (hyps : ℕ) → Over sy ts s T hyps (i ∷ [])
+  pub start_long : Writes (graph sy ts) s i w None → (hyps : ℕ) → Over sy ts s T hyps (i ∷ [])
   unfolding size_all firsts
-  start_long g hyps = record { concl = t; done = []; reads = rcons r rnil; over = inl (omega (arith, w.short g, codes_size t)) }
+  start_long W hyps = record { concl = t; done = []; reads = rcons r rnil; over = inl (omega (arith, W t r, codes_size t)) }
 
-  pub start_fits : e ≤ T → (hyps : ℕ) (starts : List ℕ) → Built sy ts s T hyps o' starts e 0 (i ∷ [])
+  pub start_fits : (e : ℕ) → Writes (graph sy ts) s i w (Some e) → (hyps : ℕ) (starts : List ℕ) → Built sy ts s T hyps (put_mid 0 T o w) starts e 0 (i ∷ [])
   unfolding size_all firsts codes_all
-  start_fits g hyps starts =
-      let f = w.fits g in
+  start_fits e W hyps starts =
+      let f = W t r in
+      let z : 0 + e ≡ e = omega arith in
       record {
         concl = t;
         done = [];
         reads = rcons r rnil;
         keeps = (keep_one sy ts s S.down S.bytes (omega (arith, facts_length T a b S.given)) r, tt);
-        text = f.1 ∙ sym (append-nil (codes t));
+        text = ap (λ (n : ℕ). take n (put_mid 0 T o w)) (sym z) ∙ put_codes o w 0 T e (codes t) (omega arith) f ∙ sym (append-nil (codes t));
         end = omega (arith, f.0, codes_size t);
         count = refl;
         marks = tt;
-        long = g;
+        long = omega (arith, f.0, ap length f.1, length-take e w);
         few = omega arith;
       }
 
 -- ---- a hypothesis
-module _ (sy : List ℕ) (T hyps : ℕ) (a b s : List ℕ) (S : Site sy T a b s) (o o' starts : List ℕ) (e n i j f : ℕ) (at : j ≡ i) (l : j < 2 * T + 128)
-    (W : Writes (graph sy (facts T a b)) s j (e + T) o o' e f) (ns : List ℕ) (B : Built sy (facts T a b) s T hyps o starts e n ns)
-  where
-    abbrev ts' : List ℕ
-    ts' = facts T a b
+module _ (sy : List ℕ) (T hyps : ℕ) (a b s : List ℕ) (S : Site sy T a b s) (o w starts : List ℕ) (e n i : ℕ) (l : i < 2 * T + 128) (room : length w ≡ T) (ns : List ℕ) (B : Built sy (facts T a b) s T hyps o starts e n ns) where
+  abbrev ts' : List ℕ
+  ts' = facts T a b
 
-    u : Term
-    u = (S.reads i).0
+  u : Term
+  u = (S.reads i).0
 
-    v : Reads (graph sy ts') s i u
-    unfolding u
-    v = (S.reads i).1
+  v : Reads (graph sy ts') s i u
+  unfolding u
+  v = (S.reads i).1
 
-    ku : Keeps sy 0 u
-    ku = keep_one sy ts' s S.down S.bytes (omega (arith, facts_length T a b S.given)) v
+  ku : Keeps sy 0 u
+  ku = keep_one sy ts' s S.down S.bytes (omega (arith, facts_length T a b S.given)) v
 
-    x : Wrote (e + T) o o' e f (codes u)
-    x = W u (subst (λ (k : ℕ). Reads (graph sy ts') s k u) (sym at) v)
+  K : List Term
+  K = firsts [] B.done
 
-    K : List Term
-    K = firsts [] B.done
+  snoc : ReadsAll (graph sy ts') s (ns ++ (i ∷ [])) (B.concl ∷ (B.done ++ (u ∷ [])))
+  snoc = reads_snoc sy ts' s B.reads v
 
-    snoc : ReadsAll (graph sy ts') s (ns ++ (i ∷ [])) (B.concl ∷ (B.done ++ (u ∷ [])))
-    snoc = reads_snoc sy ts' s B.reads v
+  -- an instance longer than T tokens is none of those kept
+  pub add_long : Writes (graph sy (facts T a b)) s i w None → Over sy ts' s T hyps (ns ++ (i ∷ []))
+  unfolding K size_all
+  add_long W =
+      let z : T < size u = omega (arith, W u v, codes_size u) in
+      let y = B.end in
+      let m = B.long in
+      record { concl = B.concl; done = B.done ++ (u ∷ []); reads = snoc; over = inl (go z (among u K) refl) }
+    where
+      go : T < size u → (c : Bool) → among u (firsts [] B.done) ≡ c → T < size B.concl + size_all (firsts [] (B.done ++ (u ∷ [])))
+      go z true q = absurd (omega (arith, among_size u (firsts [] B.done) q, B.end, B.long))
+      go z false q = omega (arith, ap size_all (firsts_new B.done u q), size_all_append (firsts [] B.done) (u ∷ []))
 
-    -- an instance longer than T tokens is none of those kept
-    pub add_long : e + T < f → Over sy ts' s T hyps (ns ++ (i ∷ []))
-    unfolding K size_all
-    add_long g =
-        let z : T < size u = omega (arith, x.short g, codes_size u) in
-        let y = B.end in
-        let m = B.long in
-        record { concl = B.concl; done = B.done ++ (u ∷ []); reads = snoc; over = inl (go z (among u K) refl) }
-      where
-        go : T < size u → (c : Bool) → among u (firsts [] B.done) ≡ c → T < size B.concl + size_all (firsts [] (B.done ++ (u ∷ [])))
-        go z true q = absurd (omega (arith, among_size u (firsts [] B.done) q, B.end, B.long))
-        go z false q = omega (arith, ap size_all (firsts_new B.done u q), size_all_append (firsts [] B.done) (u ∷ []))
+  module _ (m k : ℕ) (W : Writes (graph sy (facts T a b)) s i w (Some k)) (space : length o ≡ 2 * T) where
+    abbrev f : ℕ
+    f = e + k
 
-    module _ (g : f ≤ e + T) where
-      size_is : f ≡ e + size u
-      size_is = omega (arith, (x.fits g).0, codes_size u)
+    abbrev o' : List ℕ
+    o' = put_mid e m o w
 
-      pub add_grows : e ≤ f
-      add_grows = omega (arith, size_is)
+    size_is : k ≡ size u
+    size_is = (W u v).0 ∙ codes_size u
 
-      text_long : length (take e o) ≡ e
-      text_long = ap length B.text ∙ all_size (B.concl ∷ firsts [] B.done) ∙ (unfold size_all in sym B.end)
+    pub copy_short : k ≤ T
+    copy_short = omega (arith, (W u v).0, ap length (W u v).1, length-take k w)
 
-      -- the text before stays
-      text_same : take e o' ≡ take e o
-      text_same = sym (take-take e f o' (omega (arith, size_is))) ∙ ap (take e) (x.fits g).1 ∙ take_at (take e o) (codes u) e text_long
+    added : take f o' ≡ take e o ++ codes u
+    added = put_codes o w e m k (codes u) (omega (arith, B.long)) (W u v)
 
-      all_text : take f o' ≡ codes B.concl ++ (codes_all (firsts [] B.done) ++ codes u)
-      all_text = (x.fits g).1 ∙ ap (◌++ codes u) B.text ∙ (unfold codes_all in append_assoc (codes B.concl) (codes_all (firsts [] B.done)) (codes u))
+    text_long : length (take e o) ≡ e
+    text_long = ap length B.text ∙ all_size (B.concl ∷ firsts [] B.done) ∙ (unfold size_all in sym B.end)
 
-      pub copy_bounded : n ≤ length starts → length o' ≡ 2 * T → Bounded o' starts n e (f - e)
-      copy_bounded h d =
-          record {
-            here = omega (arith, B.long, size_is);
-            many = h;
-            before = λ k q. (let z : 0 + k ≡ k = omega arith in omega (arith, marks_le starts 0 (size B.concl) (firsts [] B.done) B.marks k (omega (arith, B.count)), ap (λ (m : ℕ). get_or starts m 0) z, B.end));
-          }
+    -- the text before stays
+    text_same : take e o' ≡ take e o
+    text_same = sym (take-take e f o' (omega arith)) ∙ ap (take e) added ∙ take_at (take e o) (codes u) e text_long
 
-      test : (c : Bool) → Says (Copy o' starts n e (f - e)) c → among u (firsts [] B.done) ≡ c
-      test c h =
-          let z : f - e ≡ size u = omega (arith, size_is) in
-          copy_says sy o' starts e u ku (codes B.concl) (firsts [] B.done) B.keeps.1 n B.count
-          (omega (arith, codes_size B.concl, B.end)) (subst (λ (k : ℕ). Marks starts 0 k (firsts [] B.done)) (sym (codes_size B.concl)) B.marks)
-          (ap (λ (k : ℕ). take k o') (sym size_is) ∙ all_text) c (subst (λ (k : ℕ). Says (Copy o' starts n e k) c) z h)
+    all_text : take f o' ≡ codes B.concl ++ (codes_all (firsts [] B.done) ++ codes u)
+    all_text = added ∙ ap (◌++ codes u) B.text ∙ (unfold codes_all in append_assoc (codes B.concl) (codes_all (firsts [] B.done)) (codes u))
 
-      -- a copy: nothing is kept of it
-      pub add_copy : (c : Bool) → c ≡ true → Says (Copy o' starts n e (f - e)) c → Built sy ts' s T hyps o' starts e n (ns ++ (i ∷ []))
-      add_copy c q h =
-          let z : firsts [] (B.done ++ (u ∷ [])) ≡ firsts [] B.done = firsts_old B.done u (test c h ∙ q) in
+    -- the instance stands within the text, and no start behind it
+    pub copy_here : e + k ≤ length o'
+    copy_here = omega (arith, B.long, copy_short, length-take-le e o (omega (arith, B.long)), length-append (take e o) (w ++ drop m (drop e o)), length-append w (drop m (drop e o)))
+
+    pub copy_before : n ≤ length starts → All (λ x. x ≤ e) (take n starts)
+    copy_before h =
+        All-from_get_or (λ x. x ≤ e) (take n starts) 0
+        (λ k q. (let z : 0 + k ≡ k = omega arith in let w : length (take n starts) ≡ n = length-take-le n starts h in omega (arith, get_or-take n starts k 0 (omega arith), marks_le starts 0 (size B.concl) (firsts [] B.done) B.marks k (omega (arith, B.count)), ap (λ (m : ℕ). get_or starts m 0) z, B.end)))
+
+    test : (c : Bool) → Says (Copy o' starts n e k) c → among u (firsts [] B.done) ≡ c
+    test c h =
+        copy_says sy o' starts e u ku (codes B.concl) (firsts [] B.done) B.keeps.1 n B.count
+        (omega (arith, codes_size B.concl, B.end)) (subst (λ (k : ℕ). Marks starts 0 k (firsts [] B.done)) (sym (codes_size B.concl)) B.marks)
+        (ap (λ (k : ℕ). take (e + k) o') (sym size_is) ∙ all_text) c (subst (λ (k : ℕ). Says (Copy o' starts n e k) c) size_is h)
+
+    -- a copy: nothing is kept of it
+    pub add_copy : (c : Bool) → c ≡ true → Says (Copy o' starts n e k) c → Built sy ts' s T hyps o' starts e n (ns ++ (i ∷ []))
+    add_copy c q h =
+        let z : firsts [] (B.done ++ (u ∷ [])) ≡ firsts [] B.done = firsts_old B.done u (test c h ∙ q) in
+        record {
+          concl = B.concl;
+          done = B.done ++ (u ∷ []);
+          reads = snoc;
+          keeps = rw z B.keeps;
+          text = text_same ∙ B.text ∙ ap (λ (l : List Term). codes_all (B.concl ∷ l)) (sym z);
+          end = rw z B.end;
+          count = rw z B.count;
+          marks = rw z B.marks;
+          long = B.long;
+          few = B.few;
+        }
+
+    module _ (c : Bool) (q : c ≡ false) (h : Says (Copy o' starts n e k) c) where
+      new : firsts [] (B.done ++ (u ∷ [])) ≡ firsts [] B.done ++ (u ∷ [])
+      new = firsts_new B.done u (test c h ∙ q)
+
+      new_size : size_all (firsts [] (B.done ++ (u ∷ []))) ≡ size_all (firsts [] B.done) + size u
+      unfolding size_all
+      new_size = omega (arith, ap size_all new, size_all_append (firsts [] B.done) (u ∷ []))
+
+      new_count : length (firsts [] (B.done ++ (u ∷ []))) ≡ n + 1
+      new_count = omega (arith, ap length new, length-append (firsts [] B.done) (u ∷ []), B.count)
+
+      pub add_large : T < f → Over sy ts' s T hyps (ns ++ (i ∷ []))
+      add_large g = record { concl = B.concl; done = B.done ++ (u ∷ []); reads = snoc; over = inl (omega (arith, new_size, size_is, B.end)) }
+
+      pub add_many : hyps ≤ n → Over sy ts' s T hyps (ns ++ (i ∷ []))
+      add_many g = record { concl = B.concl; done = B.done ++ (u ∷ []); reads = snoc; over = inr (omega (arith, new_count)) }
+
+      pub add_kept : f ≤ T → n < hyps → hyps ≤ length starts → (starts' : List ℕ) → starts' ≡ set starts n e → Built sy ts' s T hyps o' starts' f (n + 1) (ns ++ (i ∷ []))
+      add_kept g h big starts' st =
           record {
             concl = B.concl;
             done = B.done ++ (u ∷ []);
             reads = snoc;
-            keeps = rw z B.keeps;
-            text = text_same ∙ B.text ∙ ap (λ (l : List Term). codes_all (B.concl ∷ l)) (sym z);
-            end = rw z B.end;
-            count = rw z B.count;
-            marks = rw z B.marks;
-            long = B.long;
-            few = B.few;
+            keeps = rw new (B.keeps.0, keep_append sy (firsts [] B.done) (u ∷ []) B.keeps.1 (ku, tt));
+            text = all_text ∙ (unfold codes_all in ap (codes B.concl ++◌) (ap (codes_all (firsts [] B.done) ++◌) (sym (append-nil (codes u))) ∙ sym (codes_all_append (firsts [] B.done) (u ∷ [])) ∙ ap codes_all (sym new)));
+            end = omega (arith, new_size, size_is, B.end);
+            count = sym new_count;
+            marks =
+                let z : 0 + length (firsts [] B.done) ≡ n = omega (arith, B.count) in
+                rw (new, st) (subst (λ (k : ℕ). Marks (set starts k e) 0 (size B.concl) (firsts [] B.done ++ (u ∷ []))) z
+                (marks_set starts 0 (size B.concl) (firsts [] B.done) u e B.marks (omega (arith, B.count)) B.end));
+            long = g;
+            few = omega arith;
           }
-
-      module _ (c : Bool) (q : c ≡ false) (h : Says (Copy o' starts n e (f - e)) c) where
-        new : firsts [] (B.done ++ (u ∷ [])) ≡ firsts [] B.done ++ (u ∷ [])
-        new = firsts_new B.done u (test c h ∙ q)
-
-        new_size : size_all (firsts [] (B.done ++ (u ∷ []))) ≡ size_all (firsts [] B.done) + size u
-        unfolding size_all
-        new_size = omega (arith, ap size_all new, size_all_append (firsts [] B.done) (u ∷ []))
-
-        new_count : length (firsts [] (B.done ++ (u ∷ []))) ≡ n + 1
-        new_count = omega (arith, ap length new, length-append (firsts [] B.done) (u ∷ []), B.count)
-
-        pub add_large : T < f → Over sy ts' s T hyps (ns ++ (i ∷ []))
-        add_large k = record { concl = B.concl; done = B.done ++ (u ∷ []); reads = snoc; over = inl (omega (arith, new_size, size_is, B.end)) }
-
-        pub add_many : hyps ≤ n → Over sy ts' s T hyps (ns ++ (i ∷ []))
-        add_many k = record { concl = B.concl; done = B.done ++ (u ∷ []); reads = snoc; over = inr (omega (arith, new_count)) }
-
-        pub add_kept : f ≤ T → n < hyps → hyps ≤ length starts → (starts' : List ℕ) → starts' ≡ set starts n e → Built sy ts' s T hyps o' starts' f (n + 1) (ns ++ (i ∷ []))
-        add_kept k m room starts' st =
-            record {
-              concl = B.concl;
-              done = B.done ++ (u ∷ []);
-              reads = snoc;
-              keeps = rw new (B.keeps.0, keep_append sy (firsts [] B.done) (u ∷ []) B.keeps.1 (ku, tt));
-              text = all_text ∙ (unfold codes_all in ap (codes B.concl ++◌) (ap (codes_all (firsts [] B.done) ++◌) (sym (append-nil (codes u))) ∙ sym (codes_all_append (firsts [] B.done) (u ∷ [])) ∙ ap codes_all (sym new)));
-              end = omega (arith, new_size, size_is, B.end);
-              count = sym new_count;
-              marks =
-                  let z : 0 + length (firsts [] B.done) ≡ n = omega (arith, B.count) in
-                  rw (new, st) (subst (λ (k : ℕ). Marks (set starts k e) 0 (size B.concl) (firsts [] B.done ++ (u ∷ []))) z
-                  (marks_set starts 0 (size B.concl) (firsts [] B.done) u e B.marks (omega (arith, B.count)) B.end));
-              long = k;
-              few = omega arith;
-            }
 
 -- ---- later facts do not make it smaller
 pub over_more : (sy ts s : List ℕ) (T hyps : ℕ) (ns ms : List ℕ) → ((i : ℕ) → Read (graph sy ts) s i) → Over sy ts s T hyps ns → Over sy ts s T hyps (ns ++ ms)

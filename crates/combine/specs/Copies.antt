@@ -3,6 +3,8 @@ use Prim.Native.Nat.{ℕ, zero, suc, ◌+◌, ◌-◌, ◌≤◌, ◌<◌}
 use native.Mathlib.Omega.{arith}
 use Rattle.std.proofs.Common.{add-zero, ap₂, ◌∙◌, length-append, take-append-drop, take_at, drop_at, take-take}
 use Rattle.std.specs.Prelude.{Bool, ◌≡◌, drop}
+use Rattle.std.specs.List.{list_any}
+use Rattle.std.specs.Str.{bytes_eq}
 use Rattle.std.proofs.Math.Bool.{true, false}
 use mathlib.Core.List.{List, [], ◌∷◌, ◌++◌, append_assoc, append-nil}
 use Rattle.std.proofs.Math.Path.{refl, ap, sym}
@@ -102,6 +104,10 @@ Marks starts j p (t ∷ l) = (get_or starts j 0 ≡ p) × Marks starts (suc j) (
 -- n codes at one of the first `count` starts are those at p
 abbrev pub Copy : List ℕ → List ℕ → ℕ → ℕ → ℕ → Type 0
 Copy o starts count p n = (j : ℕ) × (j < count) × (take n (drop (get_or starts j 0) o) ≡ take n (drop p o))
+
+-- The same as a test of some starts.
+abbrev pub has_copy : List ℕ → List ℕ → ℕ → ℕ → Bool
+has_copy text starts p n = list_any (λ s. bytes_eq (take n (drop s text)) (take n (drop p text))) starts
 
 -- what a test says
 abbrev pub Says : Type 0 → Bool → Type 0

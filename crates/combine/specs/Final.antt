@@ -9,7 +9,7 @@ use mathlib.Core.List.{List, [], ◌∷◌, ◌++◌, map}
 use Rattle.std.proofs.Math.Path.{refl, ap, ap₂, sym, subst}
 use Rattle.std.proofs.Math.Dec.{eqb}
 use Rattle.std.proofs.Math.ListN.{drop}
-use Rattle.std.proofs.lemmas.List.{drop-append-le}
+use Rattle.std.proofs.lemmas.List.{drop-append-le, map-append}
 use Rattle.std.proofs.lemmas.Bool.{eqb-false}
 use Rattle.model.specs.Term.{Term, var, sub, size}
 use Rattle.model.specs.Rule.{Rule, Limits, fits, nth, without, left, right, sub_rule, normal, drop_copies, renumber, vars_of, size_all, combine}
@@ -57,7 +57,7 @@ pub record Combines (sy a b : List ℕ) (at : ℕ) (r r' : Rule) (k : ℕ) (h : 
   pub place : at ≡ span (arity_of sy) (suc k) (tokens_of b)
 
 -- The answer: there is a combination; where it fits, the record holds it and all behind its tokens stays.
-pub record Result (T hyps vars : ℕ) (r r' : Rule) (k : ℕ) (old new : List ℕ) (ok : Bool) : Type 0 where
+pub record CombinationIs (T hyps vars : ℕ) (r r' : Rule) (k : ℕ) (old new : List ℕ) (ok : Bool) : Type 0 where
   pub rule : Rule
   pub is : combine r r' k ≡ some rule
   pub fit : fits (limits hyps T vars) rule ≡ ok
@@ -186,14 +186,6 @@ in_room T rec x t u l e =
           ∙ sym (leaves_append t u more),
     )
 
-map_append : (f : ℕ → Term) (a b : List ℕ) → map f (a ++ b) ≡ map f a ++ map f b
-map_append f [] b = refl
-map_append f (x ∷ a) b = ap (f x ∷◌) (map_append f a b)
-
-map_append_terms : (f : Term → Term) (a b : List Term) → map f (a ++ b) ≡ map f a ++ map f b
-map_append_terms f [] b = refl
-map_append_terms f (x ∷ a) b = ap (f x ∷◌) (map_append_terms f a b)
-
 map_of_map : (g : Term → Term) (f : ℕ → Term) (l : List ℕ) → map (λ x. g (f x)) l ≡ map g (map f l)
 map_of_map g f [] = refl
 map_of_map g f (x ∷ l) = ap (g (f x) ∷◌) (map_of_map g f l)
@@ -292,7 +284,7 @@ module _ (sy : List ℕ) (T hyps vars at : ℕ) (a b s o starts names rec : List
 
   all_trees : map G.tree (all_nodes sy T a b at) ≡ (parts r r' k).concl ∷ (parts r r' k).hyps
   unfolding all_nodes parts
-  all_trees = ap₂ ◌∷◌ tree_c (map_append G.tree (visits (arity_of sy) ts (tokens_of a) 0 (T + at) (get_or a 0 0) (span (arity_of sy) 1 (tokens_of a))) (visits (arity_of sy) ts (tokens_of b) T (T + at) (get_or b 0 0) (span (arity_of sy) 1 (tokens_of b))) ∙ ap₂ ◌++◌ trees_a trees_b)
+  all_trees = ap₂ ◌∷◌ tree_c (map-append G.tree (visits (arity_of sy) ts (tokens_of a) 0 (T + at) (get_or a 0 0) (span (arity_of sy) 1 (tokens_of a))) (visits (arity_of sy) ts (tokens_of b) T (T + at) (get_or b 0 0) (span (arity_of sy) 1 (tokens_of b))) ∙ ap₂ ◌++◌ trees_a trees_b)
 
   fill : (l : List ℕ) → ReadsAll G s l (map (λ i. sub μ (G.tree i)) l)
   fill [] = rnil
@@ -321,7 +313,7 @@ module _ (sy : List ℕ) (T hyps vars at : ℕ) (a b s o starts names rec : List
       (stands_b at h w.0 (ap (λ (n : ℕ). drop n (tokens_of b)) placed ∙ w.1)) at (refl, C.solved)
 
   -- The answer says which combination there is, whether it fits, and what was written.
-  pub result_of : (new : List ℕ) (ok : Bool) → Settled sy ts s T hyps vars rec new (all_nodes sy T a b at) ok → Result T hyps vars r r' k rec new ok
+  pub result_of : (new : List ℕ) (ok : Bool) → Settled sy ts s T hyps vars rec new (all_nodes sy T a b at) ok → CombinationIs T hyps vars r r' k rec new ok
   unfolding normal
   result_of new ok Z =
       let e = the_rule Z.concl Z.done Z.reads in
@@ -342,24 +334,22 @@ facts_bytes T a b g ha hb p = go (leb T p) refl (leb (2 * T) p) refl
     go true e false f = let y = leb-true T p e in let z = leb-false (2 * T) p f in omega (arith, fact_right T a b g p y (omega arith), hb (p - T + 2))
     go true e true f = omega (arith, fact_past T a b g p (leb-true (2 * T) p f))
 
-pub site_of :
-    (sy : List ℕ) (T hyps vars at : ℕ) (a b s o starts names rec : List ℕ) → Combinable sy T hyps vars at a b s o starts names rec → ((i : ℕ) → get_or a i 0 < 256) → ((i : ℕ) → get_or b i 0 < 256)
-    → Site sy T a b s
-site_of sy T hyps vars at a b s o starts names rec C ha hb =
+pub site_of : (sy : List ℕ) (T : ℕ) (a b s : List ℕ) (p q : ℕ) → Given T a b → Solved (graph sy (facts T a b)) p q s → ((i : ℕ) → get_or a i 0 < 256) → ((i : ℕ) → get_or b i 0 < 256) → Site sy T a b s
+site_of sy T a b s p q G S ha hb =
     record {
-      given = C.given;
-      down = C.solved.down;
-      len = omega (arith, C.solved.len, facts_length T a b C.given);
-      bytes = facts_bytes T a b C.given ha hb;
-      reads = λ i. (_, C.solved.reads i);
+      given = G;
+      down = S.down;
+      len = omega (arith, S.len, facts_length T a b G);
+      bytes = facts_bytes T a b G ha hb;
+      reads = λ i. (_, S.reads i);
     }
 
 -- Any limits with these three numbers.
-pub result_fits : (L : Limits) (r r' : Rule) (k : ℕ) (old new : List ℕ) (ok : Bool) → (R : Result L.max_tokens L.max_hyps L.max_vars r r' k old new ok) → fits L R.rule ≡ ok
+pub result_fits : (L : Limits) (r r' : Rule) (k : ℕ) (old new : List ℕ) (ok : Bool) → (R : CombinationIs L.max_tokens L.max_hyps L.max_vars r r' k old new ok) → fits L R.rule ≡ ok
 result_fits L r r' k old new ok R = fits_limits L R.rule ∙ R.fit
 
 -- The combination fits: it is in the record, and the bytes behind its tokens stay.
-pub fitting_written : (L : Limits) (r r' : Rule) (k : ℕ) (old new : List ℕ) (ok : Bool) → Result L.max_tokens L.max_hyps L.max_vars r r' k old new ok
+pub fitting_written : (L : Limits) (r r' : Rule) (k : ℕ) (old new : List ℕ) (ok : Bool) → CombinationIs L.max_tokens L.max_hyps L.max_vars r r' k old new ok
     → (q : Rule) → combine r r' k ≡ some q → fits L q ≡ true → (ok ≡ true) × (new ≡ body L.max_tokens q ++ drop (L.max_tokens + 2) old)
 fitting_written L r r' k old new ok R q e f =
     let i = R.is in
@@ -368,7 +358,7 @@ fitting_written L r r' k old new ok R q e f =
     (y, R.bytes y ∙ ap (λ (x : Rule). body L.max_tokens x ++ drop (L.max_tokens + 2) old) z)
 
 -- It does not fit: the answer is false.
-pub unfitting_refused : (L : Limits) (r r' : Rule) (k : ℕ) (old new : List ℕ) (ok : Bool) → Result L.max_tokens L.max_hyps L.max_vars r r' k old new ok
+pub unfitting_refused : (L : Limits) (r r' : Rule) (k : ℕ) (old new : List ℕ) (ok : Bool) → CombinationIs L.max_tokens L.max_hyps L.max_vars r r' k old new ok
     → (q : Rule) → combine r r' k ≡ some q → fits L q ≡ false → ok ≡ false
 unfitting_refused L r r' k old new ok R q e f =
     let i = R.is in

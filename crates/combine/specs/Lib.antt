@@ -5,3 +5,5 @@ pub mod Places
 pub mod Numbers
 pub mod Settle
 pub mod Final
+pub mod Once
+pub mod Draft

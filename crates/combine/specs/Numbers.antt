@@ -1,12 +1,12 @@
 -- Variables numbered by first appearance: the numbers given so far as a set of digits, and the tokens written so far. Assumes nothing.
-use Rattle.std.specs.Prelude.{ℕ, zero, suc, ◌+◌, ◌*◌, ◌-◌, ◌^◌, ◌/◌, ◌%◌, ◌≤◌, ◌<◌, Bool, true, false, ◌≡◌, refl, eqb, length, take, get_or, set}
-use Rattle.std.proofs.Common.{arith, pow-suc, ap₂, ◌∙◌, sym, subst, pow_pos, length-append, take-append-drop, drop_of_length-le, get_or-set_same, get_or-set_other, drop-cons, length-take-le, get_or-take, take-suc, eqb-true}
+use Rattle.std.specs.Prelude.{ℕ, zero, suc, ◌+◌, ◌*◌, ◌-◌, ◌^◌, ◌/◌, ◌%◌, ◌≤◌, ◌<◌, Bool, true, false, ◌≡◌, refl, eqb, length, take, get_or, set, Result, Ok, Err}
+use Rattle.std.proofs.Common.{arith, pow-suc, ap₂, ◌∙◌, sym, subst, pow_pos, length-append, take-append-drop, get_or-set_same, get_or-set_other, length-take-le, eqb-true}
 use mathlib.Core.List.{List, [], ◌∷◌, ◌++◌, map, append_assoc, append-nil}
 use Rattle.std.proofs.Math.Path.{ap}
 use Rattle.std.specs.Int.Bits.{bit_or, or_shifted_r}
 use Rattle.std.specs.Int.Count.{ones, ones-ones, under, count_trailing_zeros}
 use Rattle.std.proofs.Math.ListN.{drop}
-use Rattle.std.proofs.lemmas.List.{length-map, set_at}
+use Rattle.std.proofs.lemmas.List.{length-map, set_at, drop_more, drop_all, map_more}
 use Rattle.std.proofs.Math.Seq.{take-length}
 use Rattle.std.proofs.lemmas.Bool.{eqb-false}
 use Rattle.model.specs.Term.{elem, distinct}
@@ -14,8 +14,7 @@ use Rattle.model.specs.Rule.{place}
 use Rattle.theory.specs.Basics.{no_confusion}
 use Rattle.terms.specs.Vars.{with_var}
 use Rattle.terms.proofs.Sets.{held_yes}
-use Rattle.combine.specs.declared.Numbering.{Numbering}
-use Rattle.combine.specs.declared.Numbering.TheVariants.{Is, Full}
+use Rattle.combine.specs.declared.TooLarge.{TooLarge}
 use Rattle.combine.specs.Codes.{code_vars, token, vars_low, vars_high, token_low, token_high}
 
 -- ---- the first n digits as a set
@@ -115,9 +114,9 @@ pub naming_rest : (vs names : List ℕ) (m vars : ℕ) (rest rest' : List ℕ) �
 naming_rest vs names m vars rest rest' e N = subst (Naming vs names m vars) e N
 
 -- What giving x its number answers.
-abbrev pub Named : List ℕ → List ℕ → ℕ → ℕ → List ℕ → Numbering → Type 0
-Named vs names x vars rest (Is m) = Naming vs names m vars rest × (get_or names x 0 ≡ suc (place x vs))
-Named vs names x vars rest Full = vars < length vs
+abbrev pub Named : List ℕ → List ℕ → ℕ → ℕ → List ℕ → Result ℕ TooLarge → Type 0
+Named vs names x vars rest (Ok m) = Naming vs names m vars rest × (get_or names x 0 ≡ suc (place x vs))
+Named vs names x vars rest (Err _) = vars < length vs
 
 module _ (vs names : List ℕ) (m vars x : ℕ) (rest : List ℕ) (N : Naming vs names m vars (x ∷ rest)) where
   is_seen : (get_or names x 0 ≡ 0 → ⊥) → elem x N.seen ≡ true
@@ -134,7 +133,7 @@ module _ (vs names : List ℕ) (m vars x : ℕ) (rest : List ℕ) (N : Naming vs
       go false e = refl
       go true e = absurd (omega (arith, N.told x e))
 
-  pub name_old : (get_or names x 0 ≡ 0 → ⊥) → Named vs names x vars rest (Is m)
+  pub name_old : (get_or names x 0 ≡ 0 → ⊥) → Named vs names x vars rest (Ok m)
   name_old h =
       let e = is_seen h in (
         record {
@@ -154,8 +153,8 @@ module _ (vs names : List ℕ) (m vars x : ℕ) (rest : List ℕ) (N : Naming vs
     new_whole : vs ≡ N.given ++ (x ∷ distinct (x ∷ N.seen) rest)
     new_whole = N.whole ∙ ap (N.given ++◌) (distinct_new N.seen x rest (is_new h))
 
-    pub name_full : vars ≤ ones m → Named vs names x vars rest Full
-    name_full l = omega (arith, count_given (length N.given) m N.bits, ap length new_whole, length-append N.given (x ∷ distinct (x ∷ N.seen) rest))
+    pub name_full : (r : TooLarge) → vars ≤ ones m → Named vs names x vars rest (Err r)
+    name_full r l = omega (arith, count_given (length N.given) m N.bits, ap length new_whole, length-append N.given (x ∷ distinct (x ∷ N.seen) rest))
 
     place_x : place x vs ≡ length N.given
     place_x = ap (place x) new_whole ∙ place_new x N.given (distinct (x ∷ N.seen) rest) (N.alike x ∙ is_new h)
@@ -167,7 +166,7 @@ module _ (vs names : List ℕ) (m vars x : ℕ) (rest : List ℕ) (N : Naming vs
       number : v ≡ length N.given + 1
       number = ev ∙ next_number (length N.given) m N.bits (omega (arith, small))
 
-      pub name_new : Named vs (set names x v) x vars rest (Is m')
+      pub name_new : Named vs (set names x v) x vars rest (Ok m')
       name_new =
           let n = length N.given in
           let f : length (N.given ++ (x ∷ [])) ≡ suc n = length-append N.given (x ∷ []) ∙ omega arith in
@@ -193,52 +192,27 @@ module _ (vs names : List ℕ) (m vars x : ℕ) (rest : List ℕ) (N : Naming vs
           known y e true q t = subst (λ (k : ℕ). get_or (set names x v) k 0 ≡ suc (place k vs)) (sym (eqb-true y x q)) t
           known y e false q t = get_or-set_other names x y v 0 (eqb-false y x q) ∙ N.told y (sym (elem_there y x N.seen q) ∙ e)
 
-pub named_is : (vs names : List ℕ) (x vars : ℕ) (rest : List ℕ) (r : Numbering) (m : ℕ) → r ≡ Is m → Named vs names x vars rest r → Naming vs names m vars rest × (get_or names x 0 ≡ suc (place x vs))
-named_is vs names x vars rest r m e h = subst (Named vs names x vars rest) e h
-
-pub named_full : (vs names : List ℕ) (x vars : ℕ) (rest : List ℕ) (r : Numbering) → r ≡ Full → Named vs names x vars rest r → vars < length vs
-named_full vs names x vars rest r e h = subst (Named vs names x vars rest) e h
-
 -- ---- the tokens
-map_append : (f : ℕ → ℕ) (a b : List ℕ) → map f (a ++ b) ≡ map f a ++ map f b
-map_append f [] b = refl
-map_append f (x ∷ a) b = ap (f x ∷◌) (map_append f a b)
-
 -- one element more, where P was written over the front of `old`
 pub put_next : (P old : List ℕ) (n v : ℕ) → length P ≡ n → n < length old → set (P ++ drop n old) n v ≡ (P ++ (v ∷ [])) ++ drop (n + 1) old
 put_next P old n v e l =
-    ap (λ (x : List ℕ). set (P ++ x) n v) (drop-cons old n 0 l)
-    ∙ set_at P (get_or old n 0) (drop (suc n) old) v n e
-    ∙ ap (λ (k : ℕ). P ++ (v ∷ drop k old)) (let z : suc n ≡ n + 1 = omega arith in z)
+    ap (λ (x : List ℕ). set (P ++ x) n v) (drop_more old n 0 l)
+    ∙ set_at P (get_or old n 0) (drop (n + 1) old) v n e
     ∙ sym (append_assoc P (v ∷ []) (drop (n + 1) old))
 
 -- The tokens of the first i codes of a text written behind the two counts.
 abbrev pub tokens_to : List ℕ → List ℕ → ℕ → List ℕ → List ℕ
 tokens_to vs text i old = (take 2 old ++ map (token vs) (take i text)) ++ drop (i + 2) old
 
-module _ (vs o old : List ℕ) (end i : ℕ) (le : end ≤ length o) (lr : end + 2 ≤ length old) (l : i < end) where
-  abbrev text : List ℕ
-  text = take end o
-
+module _ (vs text old : List ℕ) (i : ℕ) (lr : length text + 2 ≤ length old) (l : i < length text) where
   abbrev code : ℕ
-  code = get_or o i 0
-
-  long : length text ≡ end
-  long = length-take-le end o le
-
-  at : get_or text i 0 ≡ code
-  at = get_or-take end o i 0 l
-
-  next : drop i text ≡ code ∷ drop (i + 1) text
-  next =
-      drop-cons text i 0 (omega (arith, long))
-      ∙ ap₂ (λ (x n : ℕ). x ∷ drop n text) at (let z : suc i ≡ i + 1 = omega arith in z)
+  code = get_or text i 0
 
   rest_low : code < 256 → code_vars (drop i text) ≡ code_vars (drop (i + 1) text)
-  rest_low h = ap code_vars next ∙ vars_low code (drop (i + 1) text) h
+  rest_low h = ap code_vars (drop_more text i 0 l) ∙ vars_low code (drop (i + 1) text) h
 
   rest_high : 256 ≤ code → code_vars (drop i text) ≡ (code - 256) ∷ code_vars (drop (i + 1) text)
-  rest_high h = ap code_vars next ∙ vars_high code (drop (i + 1) text) h
+  rest_high h = ap code_vars (drop_more text i 0 l) ∙ vars_high code (drop (i + 1) text) h
 
   -- a variable is next
   pub naming_high : (names : List ℕ) (m vars c : ℕ) → c ≡ code → 256 ≤ c → Naming vs names m vars (code_vars (drop i text)) → Naming vs names m vars ((c - 256) ∷ code_vars (drop (i + 1) text))
@@ -257,20 +231,14 @@ module _ (vs o old : List ℕ) (end i : ℕ) (le : end ≤ length o) (lr : end +
   front : length (take 2 old ++ map (token vs) (take i text)) ≡ i + 2
   front =
       length-append (take 2 old) (map (token vs) (take i text))
-      ∙ omega (arith, length-take-le 2 old (omega arith), length-map (take i text) (token vs), length-take-le i text (omega (arith, long)))
-
-  more : map (token vs) (take (i + 1) text) ≡ map (token vs) (take i text) ++ (token vs code ∷ [])
-  more =
-      ap (λ (n : ℕ). map (token vs) (take n text)) (let z : i + 1 ≡ suc i = omega arith in z)
-      ∙ ap (map (token vs)) (take-suc text i 0 (omega (arith, long)) ∙ ap (λ (x : ℕ). take i text ++ (x ∷ [])) at)
-      ∙ map_append (token vs) (take i text) (code ∷ [])
+      ∙ omega (arith, length-take-le 2 old (omega arith), length-map (take i text) (token vs), length-take-le i text (omega arith))
 
   pub tokens_next : (rec : List ℕ) (v : ℕ) → rec ≡ tokens_to vs text i old → v ≡ token vs code → set rec (i + 2) v ≡ tokens_to vs text (i + 1) old
   tokens_next rec v e q =
       ap (λ (x : List ℕ). set x (i + 2) v) e
       ∙ put_next (take 2 old ++ map (token vs) (take i text)) old (i + 2) v front (omega arith)
       ∙ ap₂ (λ (x : List ℕ) (n : ℕ). x ++ drop n old)
-      (append_assoc (take 2 old) (map (token vs) (take i text)) (v ∷ []) ∙ ap (take 2 old ++◌) (ap (λ (x : ℕ). map (token vs) (take i text) ++ (x ∷ [])) q ∙ sym more))
+      (append_assoc (take 2 old) (map (token vs) (take i text)) (v ∷ []) ∙ ap (take 2 old ++◌) (ap (λ (x : ℕ). map (token vs) (take i text) ++ (x ∷ [])) q ∙ sym (map_more (token vs) text i 0 l)))
       (let z : i + 2 + 1 ≡ i + 1 + 2 = omega arith in z)
 
 pub tokens_start : (vs text old : List ℕ) → old ≡ tokens_to vs text 0 old
@@ -281,13 +249,47 @@ abbrev pub Numbered : List ℕ → ℕ → List ℕ → List ℕ → Bool → Ty
 Numbered text vars old new true = (length (distinct [] (code_vars text)) ≤ vars) × (new ≡ (take 2 old ++ map (token (distinct [] (code_vars text))) text) ++ drop (length text + 2) old)
 Numbered text vars old new false = vars < length (distinct [] (code_vars text))
 
-pub numbered_end : (o old rec names : List ℕ) (end i m vars : ℕ) → end ≤ length o → end ≤ i → i ≤ end
-    → Naming (distinct [] (code_vars (take end o))) names m vars (code_vars (drop i (take end o))) → rec ≡ tokens_to (distinct [] (code_vars (take end o))) (take end o) i old
-    → Numbered (take end o) vars old rec true
-numbered_end o old rec names end i m vars le l k N e =
-    let f : length (take end o) ≡ end = length-take-le end o le in
-    let z : i ≡ length (take end o) = omega arith in
-    let y : drop i (take end o) ≡ [] = drop_of_length-le (take end o) {i = i} (omega arith) in (
-      naming_end _ names m vars (naming_rest _ names m vars _ [] (ap code_vars y ∙ (unfold code_vars in refl)) N),
-      e ∙ ap (λ (n : ℕ). tokens_to (distinct [] (code_vars (take end o))) (take end o) n old) z ∙ ap (λ (x : List ℕ). (take 2 old ++ map (token (distinct [] (code_vars (take end o)))) x) ++ drop (length (take end o) + 2) old) (take-length (take end o)),
-    )
+-- Where the numbering of a text stands before code i: the variables that have their number, and the tokens written.
+pub record Partway (text old : List ℕ) (vars i : ℕ) (names rec : List ℕ) (m : ℕ) : Type 0 where
+  pub naming : Naming (distinct [] (code_vars text)) names m vars (code_vars (drop i text))
+  pub tokens : rec ≡ tokens_to (distinct [] (code_vars text)) text i old
+
+pub partway_start : (text old names : List ℕ) (vars : ℕ) → ((x : ℕ) → get_or names x 0 ≡ 0) → Partway text old vars 0 names old 0
+partway_start text old names vars z = record { naming = naming_start names vars (code_vars text) z; tokens = tokens_start (distinct [] (code_vars text)) text old }
+
+module _ {text old : List ℕ} {vars i : ℕ} {names rec : List ℕ} {m : ℕ} (P : Partway text old vars i names rec m) where
+  abbrev vs : List ℕ
+  vs = distinct [] (code_vars text)
+
+  pub partway_end : i ≡ length text → Numbered text vars old rec true
+  partway_end e =
+      let none : code_vars (drop i text) ≡ [] = ap code_vars (drop_all i text (omega arith)) ∙ (unfold code_vars in refl) in (
+        naming_end vs names m vars (naming_rest vs names m vars _ [] none P.naming),
+        P.tokens ∙ ap (λ (n : ℕ). tokens_to vs text n old) e ∙ ap (λ (x : List ℕ). (take 2 old ++ map (token vs) x) ++ drop (length text + 2) old) (take-length text),
+      )
+
+  module _ (lr : length text + 2 ≤ length old) (l : i < length text) {c : ℕ} (is : c ≡ get_or text i 0) where
+    -- a symbol's token stands as it is
+    pub partway_low : c < 256 → Partway text old vars (i + 1) names (set rec (i + 2) c) m
+    partway_low h =
+        record {
+          naming = naming_low vs text old i lr l names m vars c is h P.naming;
+          tokens = tokens_next vs text old i lr l rec c P.tokens (as_low vs text old i lr l c is h);
+        }
+
+    module _ (h : 256 ≤ c) where
+      abbrev rest : List ℕ
+      rest = code_vars (drop (i + 1) text)
+
+      named : Naming vs names m vars ((c - 256) ∷ rest)
+      named = naming_high vs text old i lr l names m vars c is h P.naming
+
+      -- a variable's name stands in its place, unless no number is left for it
+      pub partway_high : {names' : List ℕ} {m' : ℕ} → ((ws us : List ℕ) → Naming ws names m vars ((c - 256) ∷ us) → Named ws names' (c - 256) vars us (Ok m'))
+          → Partway text old vars (i + 1) names' (set rec (i + 2) (get_or names' (c - 256) 0)) m'
+      partway_high {names'} {m'} N =
+          let w = N vs rest named in
+          record { naming = w.0; tokens = tokens_next vs text old i lr l rec (get_or names' (c - 256) 0) P.tokens (as_high vs text old i lr l c (get_or names' (c - 256) 0) is h w.1) }
+
+      pub partway_full : (names' new : List ℕ) (e : TooLarge) → ((ws us : List ℕ) → Naming ws names m vars ((c - 256) ∷ us) → Named ws names' (c - 256) vars us (Err e)) → Numbered text vars old new false
+      partway_full names' new e N = N vs rest named

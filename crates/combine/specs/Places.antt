@@ -1,12 +1,10 @@
 -- The nodes that one side gives: those of its hypotheses one after another, but for the one that is skipped. Assumes nothing.
-use Rattle.std.specs.Prelude.{ℕ, zero, suc, ◌+◌, ◌-◌, ◌≤◌, ◌<◌, true, false, List, [], ◌∷◌, ◌++◌, ◌≡◌, eqb, drop}
-use Rattle.std.proofs.Common.{arith, append_assoc, append-nil, ap, ap₂, ◌∙◌, sym, subst, eq-eqb, ne_eqb}
+use Rattle.std.specs.Prelude.{ℕ, zero, suc, ◌+◌, ◌-◌, ◌<◌, true, false, List, [], ◌∷◌, ◌++◌, ◌≡◌, refl, eqb, drop, Result, Ok, Err}
+use Rattle.std.proofs.Common.{arith, append_assoc, append-nil, ap, ◌∙◌, sym, subst, eq-eqb, ne_eqb}
 use Rattle.records.specs.Tokens.{span}
 use Rattle.unify.specs.Nodes.{graph, node}
 use Rattle.unify.specs.Inside.{Read}
-use Rattle.combine.specs.declared.State.{State}
-use Rattle.combine.specs.declared.Added.{Added}
-use Rattle.combine.specs.declared.Added.TheVariants.{Went, TooLarge}
+use Rattle.combine.specs.declared.TooLarge.{TooLarge}
 use Rattle.combine.specs.Built.{Built, Over, Outcome, over_more}
 
 -- The nodes of m facts of the tokens from the place `at` on, but for the one whose place is `skip`; ts are the tokens of both records.
@@ -27,58 +25,55 @@ unfolding visits
 visits_node ar ts tokens base skip m at h = rw (h, visits)
 
 -- Some nodes went in, and `rest` is to come, of what was to go in behind ns.
-pub record Along (sy ts s : List ℕ) (T hyps : ℕ) (o starts : List ℕ) (st : State) (all rest ns : List ℕ) : Type 0 where
+pub record Along (sy ts s : List ℕ) (T hyps : ℕ) (o starts : List ℕ) (e n : ℕ) (all rest ns : List ℕ) : Type 0 where
   pub nodes : List ℕ
-  pub built : Built sy ts s T hyps o starts st.end st.count nodes
+  pub built : Built sy ts s T hyps o starts e n nodes
   pub whole : ns ++ all ≡ nodes ++ rest
 
-module _ (ar : ℕ → ℕ) (ts tokens : List ℕ) (base skip n k at d p : ℕ) (l : k < n) (e : d ≡ span ar 1 (drop at tokens)) (q : p ≡ base + at) where
-  less : n - k ≡ suc (n - (k + 1))
+module _ (ar : ℕ → ℕ) (ts tokens : List ℕ) (base skip m at d : ℕ) (l : 0 < m) (e : d ≡ span ar 1 (drop at tokens)) where
+  less : m ≡ suc (m - 1)
   less = omega arith
 
-  pub visit_skip : p ≡ skip → visits ar ts tokens base skip (n - k) at ≡ visits ar ts tokens base skip (n - (k + 1)) (at + d)
+  pub visit_skip : base + at ≡ skip → visits ar ts tokens base skip m at ≡ visits ar ts tokens base skip (m - 1) (at + d)
   visit_skip h =
-      ap (λ (m : ℕ). visits ar ts tokens base skip m at) less
-      ∙ visits_skip ar ts tokens base skip (n - (k + 1)) at (eq-eqb (base + at) skip (sym q ∙ h))
-      ∙ ap (λ (m : ℕ). visits ar ts tokens base skip (n - (k + 1)) (at + m)) (sym e)
+      ap (λ (n : ℕ). visits ar ts tokens base skip n at) less
+      ∙ visits_skip ar ts tokens base skip (m - 1) at (eq-eqb (base + at) skip h)
+      ∙ ap (λ (n : ℕ). visits ar ts tokens base skip (m - 1) (at + n)) (sym e)
 
-  pub visit_node : (p ≡ skip → ⊥) → visits ar ts tokens base skip (n - k) at ≡ node ts p ∷ visits ar ts tokens base skip (n - (k + 1)) (at + d)
+  pub visit_node : (base + at ≡ skip → ⊥) → visits ar ts tokens base skip m at ≡ node ts (base + at) ∷ visits ar ts tokens base skip (m - 1) (at + d)
   visit_node h =
-      ap (λ (m : ℕ). visits ar ts tokens base skip m at) less
-      ∙ visits_node ar ts tokens base skip (n - (k + 1)) at (ne_eqb (base + at) skip (λ z. h (q ∙ z)))
-      ∙ ap₂ (λ (x : ℕ) (m : ℕ). node ts x ∷ visits ar ts tokens base skip (n - (k + 1)) (at + m)) (sym q) (sym e)
+      ap (λ (n : ℕ). visits ar ts tokens base skip n at) less
+      ∙ visits_node ar ts tokens base skip (m - 1) at (ne_eqb (base + at) skip h)
+      ∙ ap (λ (n : ℕ). node ts (base + at) ∷ visits ar ts tokens base skip (m - 1) (at + n)) (sym e)
 
-pub visit_none : (ar : ℕ → ℕ) (ts tokens : List ℕ) (base skip n k at : ℕ) → n ≤ k → visits ar ts tokens base skip (n - k) at ≡ []
+pub visit_none : (ar : ℕ → ℕ) (ts tokens : List ℕ) (base skip at : ℕ) → visits ar ts tokens base skip 0 at ≡ []
 unfolding visits
-visit_none ar ts tokens base skip n k at l = ap (λ (m : ℕ). visits ar ts tokens base skip m at) (let z : n - k ≡ 0 = omega arith in z)
+visit_none ar ts tokens base skip at = refl
 
 -- ---- the loop's turns
 module _ (sy ts s : List ℕ) (T hyps : ℕ) where
-  pub along_start : (o starts : List ℕ) (st : State) (all rest ns : List ℕ) → all ≡ rest → Built sy ts s T hyps o starts st.end st.count ns → Along sy ts s T hyps o starts st all rest ns
-  along_start o starts st all rest ns e B = record { nodes = ns; built = B; whole = ap (ns ++◌) e }
+  pub along_skip : (o starts : List ℕ) (e n : ℕ) (all rest rest' ns : List ℕ) → rest ≡ rest' → Along sy ts s T hyps o starts e n all rest ns → Along sy ts s T hyps o starts e n all rest' ns
+  along_skip o starts e n all rest rest' ns q A = record { nodes = A.nodes; built = A.built; whole = A.whole ∙ ap (A.nodes ++◌) q }
 
-  pub along_skip : (o starts : List ℕ) (st : State) (all rest rest' ns : List ℕ) → rest ≡ rest' → Along sy ts s T hyps o starts st all rest ns → Along sy ts s T hyps o starts st all rest' ns
-  along_skip o starts st all rest rest' ns e A = record { nodes = A.nodes; built = A.built; whole = A.whole ∙ ap (A.nodes ++◌) e }
-
-  module _ (o o' starts starts' : List ℕ) (st : State) (all rest rest' ns : List ℕ) (i : ℕ) (e : rest ≡ i ∷ rest') (A : Along sy ts s T hyps o starts st all rest ns)
-      (r : Added) (R : (ms : List ℕ) → Built sy ts s T hyps o starts st.end st.count ms → Outcome sy ts s T hyps o' starts' (ms ++ (i ∷ [])) r)
+  module _ (o o' starts starts' : List ℕ) (e n e' n' : ℕ) (all rest rest' ns : List ℕ) (i : ℕ) (q : rest ≡ i ∷ rest') (A : Along sy ts s T hyps o starts e n all rest ns)
+      (r : Result (Unit {0}) TooLarge) (R : (ms : List ℕ) → Built sy ts s T hyps o starts e n ms → Outcome sy ts s T hyps o' starts' e' n' (ms ++ (i ∷ [])) r)
     where
       shift : ns ++ all ≡ (A.nodes ++ (i ∷ [])) ++ rest'
-      shift = A.whole ∙ ap (A.nodes ++◌) e ∙ sym (append_assoc A.nodes (i ∷ []) rest')
+      shift = A.whole ∙ ap (A.nodes ++◌) q ∙ sym (append_assoc A.nodes (i ∷ []) rest')
 
-      pub along_went : (st' : State) → r ≡ Went st' → Along sy ts s T hyps o' starts' st' all rest' ns
-      along_went st' q =
+      pub along_went : (x : Unit {0}) → r ≡ Ok x → Along sy ts s T hyps o' starts' e' n' all rest' ns
+      along_went x w =
           record {
             nodes = A.nodes ++ (i ∷ []);
-            built = subst (Outcome sy ts s T hyps o' starts' (A.nodes ++ (i ∷ []))) q (R A.nodes A.built);
+            built = subst (Outcome sy ts s T hyps o' starts' e' n' (A.nodes ++ (i ∷ []))) w (R A.nodes A.built);
             whole = shift;
           }
 
-      pub along_over : ((j : ℕ) → Read (graph sy ts) s j) → r ≡ TooLarge → Over sy ts s T hyps (ns ++ all)
-      along_over reads q =
+      pub along_over : ((j : ℕ) → Read (graph sy ts) s j) → (x : TooLarge) → r ≡ Err x → Over sy ts s T hyps (ns ++ all)
+      along_over reads x w =
           subst (Over sy ts s T hyps) (sym shift)
-          (over_more sy ts s T hyps (A.nodes ++ (i ∷ [])) rest' reads (subst (Outcome sy ts s T hyps o' starts' (A.nodes ++ (i ∷ []))) q (R A.nodes A.built)))
+          (over_more sy ts s T hyps (A.nodes ++ (i ∷ [])) rest' reads (subst (Outcome sy ts s T hyps o' starts' e' n' (A.nodes ++ (i ∷ []))) w (R A.nodes A.built)))
 
-  pub along_end : (o starts : List ℕ) (st : State) (all rest ns : List ℕ) → rest ≡ [] → Along sy ts s T hyps o starts st all rest ns → Built sy ts s T hyps o starts st.end st.count (ns ++ all)
-  along_end o starts st all rest ns e A =
-      subst (Built sy ts s T hyps o starts st.end st.count) (sym (A.whole ∙ ap (A.nodes ++◌) e ∙ append-nil A.nodes)) A.built
+  pub along_end : (o starts : List ℕ) (e n : ℕ) (all rest ns : List ℕ) → rest ≡ [] → Along sy ts s T hyps o starts e n all rest ns → Built sy ts s T hyps o starts e n (ns ++ all)
+  along_end o starts e n all rest ns q A =
+      subst (Built sy ts s T hyps o starts e n) (sym (A.whole ∙ ap (A.nodes ++◌) q ∙ append-nil A.nodes)) A.built

@@ -1,11 +1,12 @@
 -- The text of a rule becomes a record: whether it fits, and the bytes. Assumes nothing.
-use Rattle.std.specs.Prelude.{ℕ, ◌+◌, ◌*◌, ◌-◌, ◌≤◌, ◌<◌, Bool, true, false, not, ◌≡◌, refl, ◌⊎◌, leb, get_or}
+use Rattle.std.specs.Prelude.{ℕ, ◌+◌, ◌*◌, ◌-◌, ◌≤◌, ◌<◌, Bool, true, false, ◌≡◌, refl, ◌⊎◌, leb, get_or}
 use native.Mathlib.Omega.{arith}
-use mathlib.Core.List.{List, [], ◌∷◌, ◌++◌, map, append_assoc, append-nil}
+use mathlib.Core.List.{List, [], ◌∷◌, ◌++◌, map, append_assoc}
 use Rattle.std.proofs.Math.Path.{ap, ap₂, sym, subst}
-use Rattle.std.proofs.Common.{◌∙◌, inl, inr, length-append, length-take, length-drop, take-append-drop, get_or-take, drop-drop, le-leb, leb-true, leb-false}
-use Rattle.std.proofs.Math.ListN.{length, take, drop, set, replicate, length-map, get_or-append, get_or-eq_default}
-use Rattle.std.proofs.lemmas.List.{length-replicate, get_or-replicate, replicate-append-replicate}
+use Rattle.std.proofs.Common.{◌∙◌, inl, inr, length-append, length-take, get_or-take, drop-drop, le-leb, leb-true, leb-false}
+use borrow.Rule.Slice.PartMut.{put_mid}
+use Rattle.std.proofs.Math.ListN.{length, take, drop, set, replicate, length-map, get_or-eq_default}
+use Rattle.std.proofs.lemmas.List.{length-replicate, get_or-replicate}
 use Rattle.std.proofs.Math.Seq.{take_at, length-take-le, drop-append-add}
 use Rattle.std.proofs.lemmas.Bool.{lt-leb}
 use Rattle.model.specs.Term.{Term, var, con, ◌·◌, sub, size, distinct, vars}
@@ -19,13 +20,10 @@ use Rattle.unify.specs.Nodes.{graph, node}
 use Rattle.unify.specs.Facts.{facts}
 use Rattle.unify.specs.Read.{ReadsAll}
 use Rattle.unify.specs.Writer.{codes_all}
-use Rattle.combine.specs.declared.State.{State}
 use Rattle.combine.specs.Codes.{code_vars, token, numbers, all_vars_lem, all_tokens, all_low, every_at}
-use Rattle.combine.specs.declared.Added.{Added}
-use Rattle.combine.specs.declared.Added.TheVariants.{Went, TooLarge}
-use Rattle.combine.specs.Built.{Site, Built, Over, Outcome, over_more}
+use Rattle.combine.specs.Built.{Site, Built, Over, over_more}
 use Rattle.combine.specs.Places.{visits}
-use Rattle.combine.specs.Numbers.{Numbered, put_next}
+use Rattle.combine.specs.Numbers.{Numbered}
 
 -- What gathering the facts of two records needs.
 pub record Sheets (T hyps at : ℕ) (a b o starts : List ℕ) : Type 0 where
@@ -42,27 +40,13 @@ all_nodes sy T a b at =
     ∷ (visits (arity_of sy) (facts T a b) (tokens_of a) 0 (T + at) (get_or a 0 0) (span (arity_of sy) 1 (tokens_of a))
     ++ visits (arity_of sy) (facts T a b) (tokens_of b) T (T + at) (get_or b 0 0) (span (arity_of sy) 1 (tokens_of b)))
 
--- a side's tokens and count by other names
-side_same : (sy ts : List ℕ) (base skip : ℕ) (rec tk : List ℕ) (n : ℕ) → tk ≡ tokens_of rec → n ≡ get_or rec 0 0
-    → visits (arity_of sy) ts tk base skip n (span (arity_of sy) 1 tk) ≡ visits (arity_of sy) ts (tokens_of rec) base skip (get_or rec 0 0) (span (arity_of sy) 1 (tokens_of rec))
-side_same sy ts base skip rec tk n e q = ap₂ (λ (l : List ℕ) (m : ℕ). visits (arity_of sy) ts l base skip m (span (arity_of sy) 1 l)) e q
-
 pub tokens_short : (T : ℕ) (rec tk : List ℕ) → get_or rec 1 0 ≤ T → tk ≡ tokens_of rec → length tk ≤ T
 unfolding tokens_of
 tokens_short T rec tk l e = omega (arith, ap length e, length-take (get_or rec 1 0) (drop 2 rec))
 
-pub went_built : (sy ts s : List ℕ) (T hyps : ℕ) (o starts ns : List ℕ) (r : Added) (st : State) → r ≡ Went st → Outcome sy ts s T hyps o starts ns r → Built sy ts s T hyps o starts st.end st.count ns
-went_built sy ts s T hyps o starts ns r st e h = subst (Outcome sy ts s T hyps o starts ns) e h
-
-pub large_over : (sy ts s : List ℕ) (T hyps : ℕ) (o starts ns : List ℕ) (r : Added) → r ≡ TooLarge → Outcome sy ts s T hyps o starts ns r → Over sy ts s T hyps ns
-large_over sy ts s T hyps o starts ns r e h = subst (Outcome sy ts s T hyps o starts ns) e h
-
 module _ (sy : List ℕ) (T hyps at : ℕ) (a b s : List ℕ) (S : Site sy T a b s) where
   abbrev both : List ℕ
   both = facts T a b
-
-  abbrev side_of : ℕ → ℕ → List ℕ → ℕ → List ℕ
-  side_of base skip tk n = visits (arity_of sy) both tk base skip n (span (arity_of sy) 1 tk)
 
   -- too large with the conclusion
   pub start_over : Over sy both s T hyps (node both T ∷ []) → Over sy both s T hyps (all_nodes sy T a b at)
@@ -70,25 +54,14 @@ module _ (sy : List ℕ) (T hyps at : ℕ) (a b s : List ℕ) (S : Site sy T a b
   start_over v = over_more sy both s T hyps (node both T ∷ []) _ S.reads v
 
   -- too large with the hypotheses of a
-  pub left_over : (tk : List ℕ) (n : ℕ) → tk ≡ tokens_of a → n ≡ get_or a 0 0 → Over sy both s T hyps ((node both T ∷ []) ++ side_of 0 (T + at) tk n) → Over sy both s T hyps (all_nodes sy T a b at)
+  pub left_over : Over sy both s T hyps (node both T ∷ visits (arity_of sy) both (tokens_of a) 0 (T + at) (get_or a 0 0) (span (arity_of sy) 1 (tokens_of a))) → Over sy both s T hyps (all_nodes sy T a b at)
   unfolding all_nodes
-  left_over tk n e q v =
-      over_more sy both s T hyps (node both T ∷ side_of 0 (T + at) (tokens_of a) (get_or a 0 0)) _ S.reads
-      (subst (λ (l : List ℕ). Over sy both s T hyps (node both T ∷ l)) (side_same sy both 0 (T + at) a tk n e q) v)
-
-  pub all_outcome :
-      (tk : List ℕ) (n : ℕ) (uk : List ℕ) (m : ℕ) → tk ≡ tokens_of a → n ≡ get_or a 0 0 → uk ≡ tokens_of b → m ≡ get_or b 0 0 → (o starts : List ℕ) (r : Added)
-      → Outcome sy both s T hyps o starts (((node both T ∷ []) ++ side_of 0 (T + at) tk n) ++ side_of T (T + at) uk m) r → Outcome sy both s T hyps o starts (all_nodes sy T a b at) r
-  unfolding all_nodes
-  all_outcome tk n uk m e q f p o starts r h =
-      subst (λ (l : List ℕ). Outcome sy both s T hyps o starts l r)
-      (ap₂ (λ (x y : List ℕ). node both T ∷ (x ++ y)) (side_same sy both 0 (T + at) a tk n e q) (side_same sy both T (T + at) b uk m f p)) h
+  left_over v = over_more sy both s T hyps _ _ S.reads v
 
 -- What numbering a text needs: no variable has a name yet.
-pub record Numberable (o : List ℕ) (end vars : ℕ) (names rec : List ℕ) : Type 0 where
-  pub long : end ≤ length o
-  pub room : end + 2 ≤ length rec
-  pub low : (i : ℕ) → i < end → get_or o i 0 < 384
+pub record Numberable (text : List ℕ) (vars : ℕ) (names rec : List ℕ) : Type 0 where
+  pub room : length text + 2 ≤ length rec
+  pub low : (i : ℕ) → i < length text → get_or text i 0 < 384
   pub wide : length names ≡ 128
   pub none : (x : ℕ) → get_or names x 0 ≡ 0
   pub few : vars ≤ 32
@@ -97,33 +70,21 @@ pub record Numberable (o : List ℕ) (end vars : ℕ) (names rec : List ℕ) : T
 unfoldable pub blanked : ℕ → ℕ → List ℕ → List ℕ
 blanked from to s = (take from s ++ replicate (to - from) 0) ++ drop to s
 
-pub blank_start : (from : ℕ) (s : List ℕ) → s ≡ blanked from from s
+-- after a write of zeros at that part
+pub blanked_part : (from to : ℕ) (s : List ℕ) → from ≤ to → put_mid from (to - from) s (replicate (to - from) 0) ≡ blanked from to s
 unfolding blanked
-blank_start from s =
-    let z : from - from ≡ 0 = omega arith in
-    sym (ap (λ (n : ℕ). (take from s ++ replicate n 0) ++ drop from s) z ∙ ap (◌++ drop from s) (append-nil (take from s)) ∙ take-append-drop from s)
-
-blank_length : (from to : ℕ) (s : List ℕ) → from ≤ to → to ≤ length s → length (take from s ++ replicate (to - from) 0) ≡ to
-blank_length from to s l k = length-append (take from s) (replicate (to - from) 0) ∙ omega (arith, length-take-le from s (omega arith), length-replicate {A = ℕ} (to - from) 0)
-
-pub blank_next : (from i : ℕ) (s old : List ℕ) → from ≤ i → i < length old → s ≡ blanked from i old → set s i 0 ≡ blanked from (i + 1) old
-unfolding blanked
-blank_next from i s old l k e =
-    let z : i - from + 1 ≡ i + 1 - from = omega arith in
-    ap (λ (x : List ℕ). set x i 0) e
-    ∙ put_next (take from old ++ replicate (i - from) 0) old i 0 (blank_length from i old l (omega arith)) k
-    ∙ ap (◌++ drop (i + 1) old) (append_assoc (take from old) (replicate (i - from) 0) (0 ∷ []) ∙ ap (take from old ++◌) (replicate-append-replicate (i - from) 1 0 ∙ ap (λ (n : ℕ). replicate n 0) z))
+blanked_part from to s l =
+    let z : from + (to - from) ≡ to = omega arith in
+    ap (λ (x : List ℕ). take from s ++ (replicate (to - from) 0 ++ x)) (drop-drop (to - from) from s ∙ ap (λ (n : ℕ). drop n s) z)
+    ∙ sym (append_assoc (take from s) (replicate (to - from) 0) (drop to s))
 
 -- a table of zeros
-pub blank_all : (s t : List ℕ) → length s ≡ 128 → t ≡ blanked 0 128 s → (x : ℕ) → get_or t x 0 ≡ 0
-unfolding blanked
-blank_all s t l e x = ap (λ (u : List ℕ). get_or u x 0) e ∙ go (leb 128 x) refl
+pub zeros_all : (n x : ℕ) → ◌≡◌ {A = ℕ} (get_or (replicate n 0) x 0) 0
+zeros_all n x = go (leb n x) refl
   where
-    go : (c : Bool) → leb 128 x ≡ c → get_or (replicate (128 - 0) 0 ++ drop 128 s) x 0 ≡ 0
-    go true h = get_or-eq_default (replicate (128 - 0) 0 ++ drop 128 s) 0 {n = x} (omega (arith, leb-true 128 x h, length-append (replicate {A = ℕ} (128 - 0) 0) (drop 128 s), length-replicate {A = ℕ} (128 - 0) 0, length-drop 128 s))
-    go false h =
-        let z = leb-false 128 x h in
-        get_or-append (replicate (128 - 0) 0) (drop 128 s) 0 x (omega (arith, length-replicate {A = ℕ} (128 - 0) 0)) ∙ get_or-replicate (128 - 0) x 0 0 (omega arith)
+    go : (c : Bool) → leb n x ≡ c → ◌≡◌ {A = ℕ} (get_or (replicate n 0) x 0) 0
+    go true h = get_or-eq_default (replicate n 0) 0 {n = x} (omega (arith, leb-true n x h, length-replicate {A = ℕ} n 0))
+    go false h = get_or-replicate n x 0 0 (omega (arith, leb-false n x h))
 
 -- ---- fitting
 abbrev pub limits : ℕ → ℕ → ℕ → Limits
@@ -189,13 +150,9 @@ over_settled sy ts s T hyps vars old new ns v =
     go (inl h) = unfold drop_copies in fits_long hyps T vars (drop_copies (rule v.concl v.done)) h
     go (inr h) = unfold drop_copies in fits_many hyps T vars (drop_copies (rule v.concl v.done)) h
 
--- What writing a text as a record needs.
-pub record Writable (o : List ℕ) (st : State) (T vars : ℕ) (names rec : List ℕ) : Type 0 where
-  pub small : T ≤ 248
-  pub space : length o ≡ 2 * T
-  pub long : st.end ≤ T
-  pub few : st.count < 256
-  pub low : (i : ℕ) → i < st.end → get_or o i 0 < 384
+-- What writing the record needs besides a draft.
+pub record Writable (T hyps vars : ℕ) (names rec : List ℕ) : Type 0 where
+  pub few : hyps < 256
   pub wide : length names ≡ 128
   pub room : T + 2 ≤ length rec
   pub count : vars ≤ 32
@@ -297,14 +254,6 @@ module _ (sy ts s : List ℕ) (T hyps vars : ℕ) (o starts : List ℕ) (e n : �
       }
 
 -- ---- for the code's answers
-pub numbered_no : (text : List ℕ) (vars : ℕ) (old new : List ℕ) (c : Bool) → not c ≡ true → Numbered text vars old new c → Numbered text vars old new false
-numbered_no text vars old new true e h = no_confusion (cc)
-numbered_no text vars old new false e h = h
-
-pub numbered_yes : (text : List ℕ) (vars : ℕ) (old new : List ℕ) (c : Bool) → not c ≡ false → Numbered text vars old new c → Numbered text vars old new true
-numbered_yes text vars old new true e h = h
-numbered_yes text vars old new false e h = no_confusion (cc)
-
 -- each code of the text is a byte or a variable's
 pub built_low : (sy ts s : List ℕ) (T hyps : ℕ) (o starts : List ℕ) (e n : ℕ) (ns : List ℕ) → Built sy ts s T hyps o starts e n ns → (i : ℕ) → i < e → get_or o i 0 < 384
 built_low sy ts s T hyps o starts e n ns B i l =

@@ -1,359 +1,244 @@
 #![tactic(auto)]
 
-ghost use Rattle.std.specs.Prelude.{◌≡◌, List, [], ◌∷◌, ◌++◌, ℕ, ◌+◌, ◌-◌, ◌*◌, ◌≤◌, ◌<◌, length, take, drop, set};
+ghost use Rattle.std.specs.Prelude.{◌≡◌, List, [], ◌∷◌, ◌++◌, ℕ, ◌+◌, ◌-◌, ◌*◌, ◌≤◌, ◌<◌, length, take, get_or, is_ok, All};
+ghost use Rattle.std.specs.Result.{result_ok};
 ghost use Rattle.std.specs.Int.Count.{count_trailing_zeros};
 ghost use Rattle.model.specs.Term.{Term};
 ghost use Rattle.model.specs.Rule.{Rule};
-ghost use Rattle.records.specs.Tokens.{span as span_of};
-ghost use Rattle.records.specs.Symbols.{arity_of};
-ghost use Rattle.unify.specs.Nodes.{node};
-ghost use Rattle.unify.specs.Facts.{facts};
-ghost use Rattle.combine.specs.Copies.{Says, Copy};
-ghost use Rattle.combine.specs.Built.{Site, Bounded, Built, Ready, Outcome};
-ghost use Rattle.combine.specs.Places.{visits};
+ghost use Rattle.records.specs.Rules.{tokens_of};
+ghost use Rattle.unify.specs.Nodes.{graph};
+ghost use Rattle.unify.specs.Facts.{facts, Given};
+ghost use Rattle.unify.specs.Solve.{Solved};
+ghost use Rattle.unify.specs.Writer.{Writes};
+ghost use Rattle.combine.specs.Copies.{has_copy};
+ghost use Rattle.combine.specs.Built.{Site};
+ghost use Rattle.combine.specs.Once.{one_site};
 ghost use Rattle.combine.specs.Numbers.{Naming, Named, Numbered};
-ghost use Rattle.combine.specs.Settle.{Sheets, all_nodes, Numberable, blanked, Writable, Settled};
-ghost use Rattle.combine.specs.Final.{Combinable, Combines, Result};
+ghost use Rattle.combine.specs.Settle.{Numberable, Writable};
+ghost use Rattle.combine.specs.Final.{Combinable, Combines, CombinationIs};
 
-use records::parts::wide;
-use records::rules::tokens;
-use terms::{fact_start, span, with};
-use unify::{node_at, write};
+use records::parts::byte_at;
+use terms::{Facts, with};
+use unify::{Classes, FIRST_VARIABLE, Pair};
 
-// Where the text of what is kept ends, and how many hypotheses are kept.
+/// The rule does not fit: more hypotheses, tokens or variables than allowed.
+#[derive(Clone, Copy, Debug, PartialEq, Eq)]
+pub struct TooLarge;
+
+// Two records with the classes of a unifier: the instance of each fact can be read off them.
 #[derive(Clone, Copy)]
-pub struct State {
-    pub end: usize,
-    pub count: usize,
+struct Instances<'a> {
+    classes: Classes<'a>,
+    ghost site: { Site classes.pair.symbols.now classes.pair.toks classes.pair.a.now classes.pair.b.now classes.rep.now } by { one_site classes.pair.symbols.now classes.pair.toks classes.pair.a.now classes.pair.b.now classes.rep.now },
 }
 
-// One fact more went in, or the rule is too large.
-#[derive(Clone, Copy)]
-pub enum Added {
-    Went(State),
-    TooLarge,
+// A rule as it grows: the text of its conclusion and of each hypothesis that is kept, and where these start.
+#[derive(Drop)]
+struct Draft<'a, 'b> {
+    of: Instances<'a>,
+    text: &'b mut [u16],
+    starts: &'b mut [u16],
+    end: usize,
+    count: usize,
+    ghost space: { length text.now ≡ 2 * of.classes.pair.toks },
 }
 
-// The set of the numbers given, or no number was left.
-#[derive(Clone, Copy)]
-pub enum Numbering {
-    Is(u32),
-    Full,
-}
+impl<'a> Instances<'a> {
+    ghost use Rattle.combine.specs.Draft.{graph_of, node_of};
 
-fn wide16(x: u16) -> usize
-    ensures { (result ≡ x) × (result < 65536) }
-{
-    x as usize
-}
-
-fn put(s: &mut [u16], i: usize, v: usize)
-    requires { (i < length s.old) × (v < 65536) }
-    ensures { s.new ≡ set s.old i v }
-{
-    s[i] = v as u16;
-}
-
-// Are the n codes at two places the same?
-fn same_codes(o: &[u16], p: usize, q: usize, n: usize) -> bool
-    requires { (p + n ≤ length o.now) × (q + n ≤ length o.now) }
-    ensures { Says (take n (drop p o.now) ≡ take n (drop q o.now)) result }
-{
-    let mut i: usize = 0;
-    while i < n {
-        if o[p + i] != o[q + i] {
-            return false;
-        }
-        i += 1;
-    }
-    true
-}
-
-// Do the n codes at p stand at one of the first `count` starts, too?
-fn is_copy(o: &[u16], starts: &[u16], count: usize, p: usize, n: usize) -> bool
-    requires { Bounded o.now starts.now count p n }
-    ensures { Says (Copy o.now starts.now count p n) result }
-{
-    let mut j: usize = 0;
-    while j < count {
-        if same_codes(o, wide16(starts[j]), p, n) {
-            return true;
-        }
-        j += 1;
-    }
-    false
-}
-
-// Begins the text with the instance of the fact at a place: the conclusion.
-fn start(
-    symbols: &[u8],
-    a: &[u8],
-    b: &[u8],
-    toks: usize,
-    rep: &[u16],
-    o: &mut [u16],
-    place: usize,
-) -> Added
-    requires { Site symbols.now toks a.now b.now rep.now × ((length o.old ≡ 2 * toks) × (place ≤ 2 * toks)) }
-    ensures { (hyps : ℕ) (starts : List ℕ) → Outcome symbols.now (facts toks a.now b.now) rep.now toks hyps o.new starts (node (facts toks a.now b.now) place ∷ []) result }
-{
-    let e = write(
-        symbols,
-        a,
-        b,
-        toks,
-        rep,
-        o,
-        0,
-        toks,
-        node_at(a, b, toks, place),
-    );
-    if toks < e {
-        return Added::TooLarge;
-    }
-    Added::Went(State { end: e, count: 0 })
-}
-
-// Adds the instance of the fact at a place, unless it is a copy of one that is kept.
-fn add(
-    symbols: &[u8],
-    a: &[u8],
-    b: &[u8],
-    toks: usize,
-    hyps: usize,
-    rep: &[u16],
-    o: &mut [u16],
-    starts: &mut [u16],
-    s: State,
-    place: usize,
-) -> Added
-    requires { Ready symbols.now toks hyps a.now b.now rep.now o.old starts.old s × (place ≤ 2 * toks) }
-    ensures { (ns : List ℕ) → Built symbols.now (facts toks a.now b.now) rep.now toks hyps o.old starts.old s.end s.count ns → Outcome symbols.now (facts toks a.now b.now) rep.now toks hyps o.new starts.new (ns ++ (node (facts toks a.now b.now) place ∷ [])) result }
-{
-    let end = s.end;
-    let count = s.count;
-    let cap = end + toks;
-    let e = write(
-        symbols,
-        a,
-        b,
-        toks,
-        rep,
-        o,
-        end,
-        cap,
-        node_at(a, b, toks, place),
-    );
-    if cap < e {
-        return Added::TooLarge;
-    }
-    if is_copy(o, starts, count, end, e - end) {
-        return Added::Went(State {
-            end: end,
-            count: count,
-        });
-    }
-    if toks < e {
-        return Added::TooLarge;
-    }
-    if hyps <= count {
-        return Added::TooLarge;
-    }
-    put(starts, count, end);
-    Added::Went(State {
-        end: e,
-        count: count + 1,
-    })
-}
-
-// Adds the n hypotheses whose facts stand in `tokens` behind the first fact, but for the one at `skip`; the place p of the tokens is base + p.
-fn add_side(
-    symbols: &[u8],
-    a: &[u8],
-    b: &[u8],
-    toks: usize,
-    hyps: usize,
-    rep: &[u16],
-    o: &mut [u16],
-    starts: &mut [u16],
-    s: State,
-    tokens: &[u8],
-    n: usize,
-    base: usize,
-    skip: usize,
-) -> Added
-    requires { Ready symbols.now toks hyps a.now b.now rep.now o.old starts.old s × (base + length tokens.now ≤ 2 * toks) }
-    ensures { (ns : List ℕ) → Built symbols.now (facts toks a.now b.now) rep.now toks hyps o.old starts.old s.end s.count ns → Outcome symbols.now (facts toks a.now b.now) rep.now toks hyps o.new starts.new (ns ++ visits (arity_of symbols.now) (facts toks a.now b.now) tokens.now base skip n (span_of (arity_of symbols.now) 1 tokens.now)) result }
-{
-    let mut st = s;
-    let mut at = fact_start(symbols, tokens, 1);
-    let mut k: usize = 0;
-    while k < n {
-        let p = base + at;
-        at += span(symbols, tokens, at, 1);
-        k += 1;
-        if p == skip {
-            continue;
-        }
-        let Added::Went(next) = add(symbols, a, b, toks, hyps, rep, o, starts, st, p) else {
-            return Added::TooLarge;
+    // Takes the parts of a pair, since that each token is a byte is known of a slice that is passed, and not of one in a struct.
+    fn new(symbols: &'a [u8], a: &'a [u8], b: &'a [u8], toks: usize, rep: &'a [u16]) -> Self
+        requires given { Given toks a.now b.now }
+        requires solved { (p : ℕ) × ((q : ℕ) × Solved (graph symbols.now (facts toks a.now b.now)) p q rep.now) }
+        ensures pair { (result.classes.pair.symbols.now ≡ symbols.now) × ((result.classes.pair.a.now ≡ a.now) × ((result.classes.pair.b.now ≡ b.now) × (result.classes.pair.toks ≡ toks))) }
+        ensures rep { result.classes.rep.now ≡ rep.now }
+    {
+        let pair = Pair {
+            symbols,
+            a,
+            b,
+            toks,
         };
-        st = next;
+        Instances {
+            classes: Classes { pair, rep },
+        }
     }
-    Added::Went(st)
-}
 
-// Gathers the rule: the conclusion of b, the hypotheses of a, and those of b but the one at `at`.
-fn gathered(
-    symbols: &[u8],
-    a: &[u8],
-    b: &[u8],
-    toks: usize,
-    hyps: usize,
-    at: usize,
-    rep: &[u16],
-    o: &mut [u16],
-    starts: &mut [u16],
-) -> Added
-    requires { Site symbols.now toks a.now b.now rep.now × Sheets toks hyps at a.now b.now o.old starts.old }
-    ensures { Outcome symbols.now (facts toks a.now b.now) rep.now toks hyps o.new starts.new (all_nodes symbols.now toks a.now b.now at) result }
-{
-    let Added::Went(s) = start(symbols, a, b, toks, rep, o, toks) else {
-        return Added::TooLarge;
-    };
-    let skip = toks + at;
-    let Added::Went(t) = add_side(
-        symbols,
-        a,
-        b,
-        toks,
-        hyps,
-        rep,
-        o,
-        starts,
-        s,
-        tokens(a),
-        wide(a[0]),
-        0,
-        skip,
-    ) else {
-        return Added::TooLarge;
-    };
-    add_side(
-        symbols,
-        a,
-        b,
-        toks,
-        hyps,
-        rep,
-        o,
-        starts,
-        t,
-        tokens(b),
-        wide(b[0]),
-        toks,
-        skip,
-    )
+    // Writes the codes of the instance of the fact at a place, and returns their number.
+    fn write(&self, place: usize, out: &mut [u16]) -> Result<usize, TooLarge>
+        requires { place ≤ 2 * self.now.classes.pair.toks }
+        ensures { Writes (graph_of self.now) self.now.classes.rep.now (node_of self.now place) out.new (result_ok result) }
+    {
+        let node = self.classes.pair.node_at(place);
+        self.classes.write(out, node).ok_or(TooLarge)
+    }
 }
 
 // The least number that a set of numbers lacks.
 fn next(set: u32) -> u8
     ensures { result ≡ count_trailing_zeros 32 (4294967295 - set) + 1 }
 {
-    (u32::trailing_zeros(!set) + 1) as u8
+    (!set).trailing_zeros() as u8 + 1
 }
 
 // Gives the variable x the next number, unless it has one or all are given.
-fn name(names: &mut [u8], x: usize, set: u32, vars: usize) -> Numbering
+fn name(names: &mut [u8], x: usize, set: u32, vars: usize) -> Result<u32, TooLarge>
     requires { (x < length names.old) × (vars ≤ 32) }
     ensures { (vs : List ℕ) (rest : List ℕ) → Naming vs names.old set vars (x ∷ rest) → Named vs names.new x vars rest result }
 {
     if names[x] != 0 {
-        return Numbering::Is(set);
+        return Ok(set);
     }
-    if vars <= u32::count_ones(set) as usize {
-        return Numbering::Full;
+    if vars <= set.count_ones() as usize {
+        return Err(TooLarge);
     }
     let v = next(set);
     names[x] = v;
-    Numbering::Is(with(set, v))
+    Ok(with(set, v))
 }
 
-// Writes the tokens of a text behind the counts, its variables numbered by first appearance; false where there are more than `vars`.
-fn number(o: &[u16], end: usize, vars: usize, names: &mut [u8], rec: &mut [u8]) -> bool
-    requires { Numberable o.now end vars names.old rec.old }
-    ensures { Numbered (take end o.now) vars rec.old rec.new result }
+// Writes the tokens of a text behind the counts, its variables numbered by first appearance, unless there are more than `vars`.
+fn number(text: &[u16], vars: usize, names: &mut [u8], rec: &mut [u8]) -> Result<(), TooLarge>
+    requires { Numberable text.now vars names.old rec.old }
+    ensures { Numbered text.now vars rec.old rec.new (is_ok result) }
 {
     let mut set: u32 = 0;
-    let mut i: usize = 0;
-    while i < end {
-        let c = wide16(o[i]);
-        if c < 256 {
-            rec[i + 2] = c as u8;
-            i += 1;
+    for (i, &code) in text.iter().enumerate() {
+        let code = usize::from(code);
+        if code < FIRST_VARIABLE {
+            rec[i + 2] = code as u8;
             continue;
         }
-        let x = c - 256;
-        let Numbering::Is(more) = name(names, x, set, vars) else {
-            return false;
-        };
+        let x = code - FIRST_VARIABLE;
+        set = name(names, x, set, vars)?;
         rec[i + 2] = names[x];
-        set = more;
-        i += 1;
     }
-    true
+    Ok(())
 }
 
-// Zeros from one place up to another.
-fn blank(s: &mut [u8], from: usize, to: usize)
-    requires { (from ≤ to) × (to ≤ length s.old) }
-    ensures { s.new ≡ blanked from to s.old }
-{
-    let mut i = from;
-    while i < to {
-        s[i] = 0;
-        i += 1;
+impl<'a, 'b> Draft<'a, 'b> {
+    ghost use Rattle.combine.specs.Draft.{node_of, side_of, nodes_of, Holds, IsSameRoom, Leaves, IsWritten};
+
+    // Begins with the instance of the fact at a place: the conclusion.
+    fn start(&mut self, place: usize) -> Result<(), TooLarge>
+        requires { place ≤ 2 * self.old.of.classes.pair.toks }
+        ensures same { IsSameRoom self.old self.new }
+        ensures left { Leaves self.old self.new (node_of self.old.of place ∷ []) result }
+    {
+        let toks = self.of.classes.pair.toks;
+        self.end = self.of.write(place, &mut self.text[..toks])?;
+        self.count = 0;
+        Ok(())
+    }
+
+    // Do the n codes at p stand at one of the starts, too?
+    fn is_copy(&self, p: usize, n: usize) -> bool
+        requires counted { self.now.count ≤ length self.now.starts.now }
+        requires here { p + n ≤ length self.now.text.now }
+        requires before { All (λ s. s ≤ p) (take self.now.count self.now.starts.now) }
+        ensures { result ≡ has_copy self.now.text.now (take self.now.count self.now.starts.now) p n }
+    {
+        self.starts[..self.count].iter().any(|&s| {
+            let from = usize::from(s);
+            self.text[from..from + n] == self.text[p..p + n]
+        })
+    }
+
+    // Adds the instance of the fact at a place, unless it is a copy of one that is kept.
+    fn add(&mut self, place: usize) -> Result<(), TooLarge>
+        requires held { (ns : List ℕ) × Holds self.old ns }
+        requires inside { place ≤ 2 * self.old.of.classes.pair.toks }
+        ensures same { IsSameRoom self.old self.new }
+        ensures left { (ns : List ℕ) → Holds self.old ns → Leaves self.old self.new (ns ++ (node_of self.old.of place ∷ [])) result }
+    {
+        let toks = self.of.classes.pair.toks;
+        let end = self.end;
+        let len = self.of.write(place, &mut self.text[end..end + toks])?;
+        if self.is_copy(end, len) {
+            return Ok(());
+        }
+        if toks < end + len || self.starts.len() <= self.count {
+            return Err(TooLarge);
+        }
+        self.starts[self.count] = end as u16;
+        self.count += 1;
+        self.end = end + len;
+        Ok(())
+    }
+
+    // Adds the hypotheses of a record but for the one at `skip`; the place p of its tokens is base + p.
+    fn add_side(&mut self, rec: &[u8], base: usize, skip: usize) -> Result<(), TooLarge>
+        requires held { (ns : List ℕ) × Holds self.old ns }
+        requires inside { base + length (tokens_of rec.now) ≤ 2 * self.old.of.classes.pair.toks }
+        ensures same { IsSameRoom self.old self.new }
+        ensures left { (ns : List ℕ) → Holds self.old ns → Leaves self.old self.new (ns ++ side_of self.old.of rec.now base skip) result }
+    {
+        let facts = Facts::of_record(self.of.classes.pair.symbols, rec);
+        for (at, _) in facts.walk(1, usize::from(byte_at(rec, 0))) {
+            let place = base + at;
+            if place == skip {
+                continue;
+            }
+            self.add(place)?;
+        }
+        Ok(())
+    }
+
+    // Gathers the rule: the conclusion of b, the hypotheses of a, and those of b but the one at `at`.
+    fn gather(&mut self, at: usize) -> Result<(), TooLarge>
+        requires counts { (get_or self.old.of.classes.pair.a.now 1 0 ≤ self.old.of.classes.pair.toks) × (get_or self.old.of.classes.pair.b.now 1 0 ≤ self.old.of.classes.pair.toks) }
+        requires inside { at ≤ self.old.of.classes.pair.toks }
+        ensures same { IsSameRoom self.old self.new }
+        ensures left { Leaves self.old self.new (nodes_of self.old.of at) result }
+    {
+        let pair = self.of.classes.pair;
+        let skip = pair.toks + at;
+        self.start(pair.toks)?;
+        self.add_side(pair.a, 0, skip)?;
+        self.add_side(pair.b, pair.toks, skip)
+    }
+
+    // Writes the rule as a record, unless it has more than `vars` variables.
+    fn write(&self, vars: usize, names: &mut [u8], rec: &mut [u8]) -> Result<(), TooLarge>
+        requires held { (ns : List ℕ) × Holds self.now ns }
+        requires room { Writable self.now.of.classes.pair.toks (length self.now.starts.now) vars names.old rec.old }
+        ensures { (ns : List ℕ) → Holds self.now ns → IsWritten self.now vars rec.old rec.new ns (is_ok result) }
+    {
+        let toks = self.of.classes.pair.toks;
+        let end = self.end;
+        names.fill(0);
+        number(&self.text[..end], vars, names, rec)?;
+        rec[end + 2..toks + 2].fill(0);
+        rec[0] = self.count as u8;
+        rec[1] = end as u8;
+        Ok(())
     }
 }
 
-// Writes the rule that a text holds; false where it has more than `vars` variables.
-fn written(o: &[u16], s: State, toks: usize, vars: usize, names: &mut [u8], rec: &mut [u8]) -> bool
-    requires { Writable o.now s toks vars names.old rec.old }
-    ensures { (sy ts srep : List ℕ) (hyps : ℕ) (starts ns : List ℕ) → Built sy ts srep toks hyps o.now starts s.end s.count ns → Settled sy ts srep toks hyps vars rec.old rec.new ns result }
-{
-    let end = s.end;
-    let count = s.count;
-    blank(names, 0, 128);
-    if !number(o, end, vars, names, rec) {
-        return false;
-    }
-    blank(rec, end + 2, toks + 2);
-    rec[0] = count as u8;
-    rec[1] = end as u8;
-    true
-}
-
-// Writes the combination of the rules in a and b upon the hypothesis at the place `at` of b, after `unify` found the classes `rep`.
-// False where it does not fit: more than `hyps` hypotheses, `toks` tokens or `vars` variables.
-pub fn combined(
-    symbols: &[u8],
-    a: &[u8],
-    b: &[u8],
-    toks: usize,
+/// Writes the combination of the rules in a and b upon the hypothesis at the place `at` of b, after `unify` found these classes.
+/// It is too large with more than `hyps` hypotheses, `toks` tokens or `vars` variables.
+pub fn combined<'b>(
+    classes: &Classes,
     hyps: usize,
     vars: usize,
     at: usize,
-    rep: &[u16],
-    o: &mut [u16],
-    starts: &mut [u16],
+    text: &'b mut [u16],
+    starts: &'b mut [u16],
     names: &mut [u8],
     rec: &mut [u8],
-) -> bool
-    requires { Combinable symbols.now toks hyps vars at a.now b.now rep.now o.old starts.old names.old rec.old }
-    ensures { (r : Rule) (r' : Rule) (k : ℕ) (h : Term) → Combines symbols.now a.now b.now at r r' k h → Result toks hyps vars r r' k rec.old rec.new result }
+) -> Result<(), TooLarge>
+    requires { let pair = classes.now.pair in Combinable pair.symbols.now pair.toks hyps vars at pair.a.now pair.b.now classes.now.rep.now text.old starts.old names.old rec.old }
+    ensures { let pair = classes.now.pair in (r : Rule) (r' : Rule) (k : ℕ) (h : Term) → Combines pair.symbols.now pair.a.now pair.b.now at r r' k h → CombinationIs pair.toks hyps vars r r' k rec.old rec.new (is_ok result) }
 {
-    let Added::Went(s) = gathered(symbols, a, b, toks, hyps, at, rep, o, starts) else {
-        return false;
+    let pair = classes.pair;
+    let of = Instances::new(pair.symbols, pair.a, pair.b, pair.toks, classes.rep);
+    let mut draft = Draft {
+        of,
+        text,
+        starts: &mut starts[..hyps],
+        end: 0,
+        count: 0,
     };
-    written(o, s, toks, vars, names, rec)
+    draft.gather(at)?;
+    draft.write(vars, names, rec)
 }
