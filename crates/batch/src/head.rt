@@ -88,6 +88,7 @@ fn number(s: &[u8; HEAD], i: usize) -> usize
     requires { i + 4 ≤ HEAD }
     ensures { result ≡ number_at s.now i }
 {
+    // No `From` leads from four bytes to `usize`; here nothing is lost.
     u32::from_le_bytes([s[i], s[i + 1], s[i + 2], s[i + 3]]) as usize
 }
 
@@ -157,6 +158,7 @@ fn read_full<R: Read>(input: &mut R, buf: &mut [u8]) -> io::Result<usize>
     ensures err { OnErr result ((n : ℕ) × (n ≤ length buf.new) × Consumes (R.remaining input.old) (R.remaining input.new) (take n buf.new)) }
 {
     let mut done = 0;
+    // A `while`: a read gives any number of bytes, and `read_exact` promises nothing of an error.
     while done < buf.len() {
         let n = input.read(&mut buf[done..])?;
         if n == 0 {

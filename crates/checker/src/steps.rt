@@ -51,7 +51,7 @@ impl Form {
     pub(crate) fn whole(self, n: usize) -> bool
         ensures { result ≡ steps_length self.hyps self.toks self.most n }
     {
-        1 <= n && n <= self.most * self.size() && n % self.size() == 0
+        (1..=self.most * self.size()).contains(&n) && n % self.size() == 0
     }
 
     // The very tokens of a step.
@@ -95,8 +95,7 @@ impl StepList<'_> {
         let n = usize::from(byte_at(step, 3));
         r < rules.len() / record
             && k == usize::from(byte_at(rules, r * record))
-            && 2 <= n
-            && n <= self.form.toks
+            && (2..=self.form.toks).contains(&n)
             && tokens_good(symbols, self.form.tokens(step), 0, 1)
             && zeros(rest(step, self.form.place() + n))
             && self.form.slots_zero(step, k)

@@ -1,3 +1,5 @@
+// Combination of two records: the instances of their facts gathered, without copies, its variables numbered.
+// A number is narrowed by `as` where the proof shows that it fits: `try_from` would add a refusal that never comes.
 #![tactic(auto)]
 
 ghost use Rattle.std.specs.Prelude.{◌≡◌, List, [], ◌∷◌, ◌++◌, ℕ, ◌+◌, ◌-◌, ◌*◌, ◌≤◌, ◌<◌, length, take, get_or, is_ok, All};
@@ -97,6 +99,7 @@ fn name(names: &mut [u8], x: usize, set: u32, vars: usize) -> Result<u32, TooLar
     Ok(with(set, v))
 }
 
+// In `names`, which callers lend as bytes, 0 is no number yet: a narrower type would ask more of them.
 // Writes the tokens of a text behind the counts, its variables numbered by first appearance, unless there are more than `vars`.
 fn number(text: &[u16], vars: usize, names: &mut [u8], rec: &mut [u8]) -> Result<(), TooLarge>
     requires { Numberable text.now vars names.old rec.old }

@@ -13,8 +13,10 @@ use records::parts::byte_at;
 use records::rules::tokens;
 use terms::Facts;
 
-// The state byte of a live record.
+// The state byte of a live record, as the record format has it.
 const LIVE: u8 = 1;
+
+// Sets of variables and of hypotheses are plain `u32`, whose ones are counted: a rule of the project.
 
 /// Is j not in the set u?
 #[tactic(auto, unfolding(crate::specs::Imply::free))]
@@ -80,7 +82,7 @@ impl<'a> Target<'a> {
         let hyp = terms::hypothesis(symbols, r, k);
         let own = Facts::of_record(symbols, record);
         for (j, (at, _)) in own.walk(1, usize::from(hypotheses(record))).enumerate() {
-            let j = j as u32;
+            let j = j as u32; // a set has at most 32 members, as is proved
             if !is_free(used, j) || !may_match(hyp, own.tokens, at) {
                 continue;
             }

@@ -19,6 +19,7 @@ pub fn agree(text: &[u8], n: usize, s: usize, p: usize) -> bool
 
 /// Do the tokens of a pattern match the text from the place `from` on, under the bindings?
 /// A binding is 0 for a free variable, else one more than the place of the term that it stands for.
+// `Option` in their place would ask more of callers, who lend numbers, and twice the bytes at each copy of the bindings.
 #[tactic(auto, using(crate::proofs::Laws::turns))]
 #[inline(always)]
 pub fn match_at(symbols: &[u8], pattern: &[u8], text: &[u8], from: usize, binds: &mut [u16]) -> bool
@@ -42,7 +43,7 @@ pub fn match_at(symbols: &[u8], pattern: &[u8], text: &[u8], from: usize, binds:
         let n = terms.span(p, 1);
         let bound = usize::from(binds[usize::from(t)]);
         if bound == 0 {
-            binds[usize::from(t)] = (p + 1) as u16;
+            binds[usize::from(t)] = (p + 1) as u16; // a text has at most 65534 tokens
         } else if !agree(text, n, bound - 1, p) {
             return false;
         }

@@ -55,6 +55,7 @@ pub fn tokens(rec: &[u8]) -> &[u8]
     part(rec, 2, usize::from(byte_at(rec, 1)))
 }
 
+// Three numbers and not `Limits`, since nothing is asked of them.
 /// Is this an input rule of at most `hyps` hypotheses and `toks` tokens, with zeros after them?
 #[tactic(auto, unfolding(crate::specs::Rules::rule_good, model::specs::Term::both))]
 pub fn rule_good(symbols: &[u8], rec: &[u8], hyps: usize, toks: usize, vars: usize) -> bool
@@ -63,8 +64,7 @@ pub fn rule_good(symbols: &[u8], rec: &[u8], hyps: usize, toks: usize, vars: usi
     let h = usize::from(byte_at(rec, 0));
     let n = usize::from(byte_at(rec, 1));
     h <= hyps
-        && 2 <= n
-        && n <= toks
+        && (2..=toks).contains(&n)
         && tokens_good(symbols, tokens(rec), vars, h + 1)
         && zeros(rest(rec, 2 + n))
 }

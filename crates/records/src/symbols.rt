@@ -60,7 +60,7 @@ impl Kind {
         ensures { result ≡ shape_good (code_of self) arity }
     {
         match self {
-            Kind::Predicate => 1 <= arity && arity <= 4,
+            Kind::Predicate => (1..=4).contains(&arity),
             Kind::Function | Kind::Name => arity <= 6,
         }
     }
@@ -161,5 +161,5 @@ pub fn first_bad_symbol(symbols: &[u8]) -> Option<usize>
 pub fn symbols_length(n: usize) -> bool
     ensures { result ≡ symbols_length n }
 {
-    16 <= n && n <= 2048 && n % 16 == 0
+    (16..=2048).contains(&n) && n % 16 == 0
 }

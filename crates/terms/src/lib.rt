@@ -173,7 +173,7 @@ pub fn all_open(symbols: &[u8], rec: &[u8]) -> bool
 pub fn with(set: u32, t: u8) -> u32
     ensures { result ≡ with_var set t }
 {
-    if t < 1 || LAST_VAR < t {
+    if !(1..=LAST_VAR).contains(&t) {
         return set;
     }
     set | (1 << (u32::from(t) - 1))

@@ -1,4 +1,5 @@
 // The unifier on the very bytes of two records, and the instances of their terms under its classes.
+// A number is narrowed by `as` where the proof shows that it fits: `try_from` would add a refusal that never comes.
 #![tactic(auto)]
 
 ghost use Rattle.std.specs.Prelude.{◌≡◌, ◌+◌, ◌*◌, ◌≤◌, ◌<◌, length, get_or};
