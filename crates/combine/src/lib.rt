@@ -35,6 +35,7 @@ struct Instances<'a> {
 }
 
 // A rule as it grows: the text of its conclusion and of each hypothesis that is kept, and where these start.
+// The sheets are lent, with what is used of them beside: nothing is allocated. `Holds` is no ghost field: before `start` there is no rule.
 #[derive(Drop)]
 struct Draft<'a, 'b> {
     of: Instances<'a>,

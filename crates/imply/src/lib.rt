@@ -139,6 +139,7 @@ impl<'a> Target<'a> {
     }
 
     /// The first live one of `count` records, of room for `toks` tokens, that implies this one.
+    /// Past the end of the table there is none: a caller need not cut it, so the count goes beside it.
     #[tactic(auto, using(crate::proofs::Laws::scans))]
     pub fn first_implying(&self, table: &[u8], count: usize, toks: usize) -> Option<usize>
         requires { toks ≤ 248 }

@@ -13,3 +13,4 @@ pub mod Whole
 pub mod Formed
 pub mod Final
 pub mod Pairs
+pub mod Parts

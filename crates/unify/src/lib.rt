@@ -148,6 +148,7 @@ impl<'a> Pair<'a> {
         u != v
     }
 
+    // `rep` is written here, so it is no part of a `Classes` yet.
     // Unites the classes of two nodes, and of their arguments in pairs; false where two symbols differ.
     fn merge(&self, rep: &mut [u16], i: usize, j: usize) -> bool
         requires long { length rep.old ≡ 2 * self.now.toks + 128 }
@@ -208,7 +209,7 @@ impl<'a> Pair<'a> {
 impl<'a> Classes<'a> {
     ghost use Rattle.unify.specs.Pairs.{tokens_of, nodes_of};
 
-    // Does an open class stand inside the node i? Where not, all of i is done.
+    // Does an open class stand inside the node i? Where not, all of i is done. The marks are written, so they go beside the classes.
     fn look(&self, marks: &mut [u8], i: usize) -> bool
         requires long { length marks.old ≡ 2 * self.now.pair.toks + 128 }
         requires node { i < 2 * self.now.pair.toks + 128 }
