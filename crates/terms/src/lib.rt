@@ -92,7 +92,7 @@ impl<'s, 'a> Facts<'s, 'a> {
 }
 
 /// A walk over `left` facts from fact `next` on, which stands at the place `at`. It gives each fact's place and its very tokens.
-#[derive(Clone, Copy)]
+#[derive(Drop)]
 pub struct Walk<'s, 'a> {
     pub facts: Facts<'s, 'a>,
     pub next: usize,
