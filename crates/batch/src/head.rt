@@ -151,7 +151,7 @@ fn head_of(s: &[u8; HEAD]) -> Option<Case>
 }
 
 // Reads until a buffer is full or the input ends. How many bytes came? They stand at its front, also where a later read fails.
-fn read_full<R: Read>(input: &mut R, buf: &mut [u8]) -> io::Result<usize>
+pub fn read_full<R: Read>(input: &mut R, buf: &mut [u8]) -> io::Result<usize>
     ensures within { IfOk result (λ n. n ≤ length buf.new) }
     ensures bytes { IfOk result (λ n. Consumes (R.remaining input.old) (R.remaining input.new) (take n buf.new)) }
     ensures end { IfOk result (λ n. n < length buf.new → IsAtEnd (R.remaining input.new)) }

@@ -1,7 +1,7 @@
 // One-way matching on tokens: the variables of a pattern are bound to places of a text.
 #![tactic(auto)]
 
-ghost use Rattle.std.specs.Prelude.{◌≡◌, ◌≤◌, length};
+ghost use Rattle.std.specs.Prelude.{◌≡◌, ◌+◌, ◌≤◌, ◌<◌, length, set};
 ghost use Rattle.records.specs.Symbols.{arity_of};
 ghost use Rattle.matching.specs.Match.{agree as agrees, matched};
 
@@ -15,6 +15,14 @@ pub fn agree(text: &[u8], n: usize, s: usize, p: usize) -> bool
     ensures { result ≡ agrees text.now n s p }
 {
     part(text, s, n) == part(text, p, n)
+}
+
+/// Binds the variable x to the place p, kept as p + 1.
+pub fn bind(binds: &mut [u16], x: usize, p: usize)
+    requires { (x < length binds.old) × (p < 65535) }
+    ensures { binds.new ≡ set binds.old x (p + 1) }
+{
+    binds[x] = (p + 1) as u16; // it fits, as is proved
 }
 
 /// Do the tokens of a pattern match the text from the place `from` on, under the bindings?
@@ -43,7 +51,7 @@ pub fn match_at(symbols: &[u8], pattern: &[u8], text: &[u8], from: usize, binds:
         let n = terms.span(p, 1);
         let bound = usize::from(binds[usize::from(t)]);
         if bound == 0 {
-            binds[usize::from(t)] = (p + 1) as u16; // a text has at most 65534 tokens
+            bind(binds, usize::from(t), p);
         } else if !agree(text, n, bound - 1, p) {
             return false;
         }

@@ -4,11 +4,12 @@ use mathlib.Core.Bool.{Bool, true, false}
 use Prim.Native.Nat.{ℕ}
 use borrow.Author.Tests.{eqb-true}
 use lib.Dec.{eqb}
-use Rattle.std.specs.Prelude.{Option, Some, None, MatchOption}
+use Rattle.std.specs.Prelude.{Option, Some, None, MatchOption, Result, Ok, Err, MatchResult}
 use Rattle.records.specs.declared.symbols.Kind.{Kind}
 use Rattle.records.specs.declared.symbols.Kind.TheVariants.{Predicate, Function, Name}
 use Rattle.records.specs.Symbols.{is_function}
-use Rattle.records.specs.Kinds.{code_of, kind_named}
+use Rattle.records.specs.declared.symbols.UnknownKind.{UnknownKind}
+use Rattle.records.specs.Kinds.{code_of, kind_named, Names}
 
 -- The tests of a byte, by the kind that it names.
 pub tests_named : (n : ℕ) → MatchOption (kind_named n) ((eqb n 1 ≡ false) × (is_function n ≡ false)) (λ k. code_of k ≡ n)
@@ -34,3 +35,7 @@ some_function o n r e m = go (kind_named n) (subst (λ x. MatchOption x (r ≡ f
     go : (x : Option Kind) → MatchOption x (r ≡ false) (λ k. r ≡ is_function (code_of k)) → MatchOption x ((eqb n 1 ≡ false) × (is_function n ≡ false)) (λ k. code_of k ≡ n) → r ≡ is_function n
     go (Some k) a b = subst (λ (z : ℕ). r ≡ is_function z) b a
     go None a b = a ∙ sym b.1
+
+pub ok_function : (x : Result Kind UnknownKind) (n : ℕ) (r : Bool) → Names n x → MatchResult x (λ k. r ≡ is_function (code_of k)) (λ _. r ≡ false) → r ≡ is_function n
+ok_function (Ok k) n r e m = some_function (Some k) n r (sym e) m
+ok_function (Err u) n r e m = some_function None n r (sym e) m

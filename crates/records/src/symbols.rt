@@ -1,6 +1,6 @@
 // The symbol table: what it says of a token, and its first bad record.
 ghost use Rattle.std.specs.Prelude.{◌≡◌, ◌+◌, ◌*◌, ◌/◌, ◌≤◌, ◌<◌, length};
-ghost use Rattle.records.specs.Symbols.{arity_of, is_function, name_rest, name_good, shape_good, name_new, first_good, symbol_good, first_bad_symbol, symbols_length};
+ghost use Rattle.records.specs.Symbols.{kind_of, arity_of, is_function, name_rest, name_good, shape_good, name_new, first_good, symbol_good, first_bad_symbol, symbols_length};
 ghost use Rattle.records.specs.Found.{found_of};
 ghost use Rattle.records.specs.Kinds.{code_of, kind_at, Names};
 
@@ -36,14 +36,10 @@ impl TryFrom<u8> for Kind {
 
 impl Kind {
     /// The kind of a token: none where it is a variable or no symbol.
-    #[tactic(auto, unfolding(crate::specs::Symbols::kind_of))]
     pub fn of(symbols: &[u8], t: u8) -> Option<Self>
         ensures { result ≡ kind_at symbols.now t }
     {
-        if t < FIRST_SYMBOL {
-            return None;
-        }
-        Kind::try_from(byte_at(symbols, 16 * usize::from(t - FIRST_SYMBOL))).ok()
+        Kind::try_from(kind_byte(symbols, t)).ok()
     }
 
     /// Functions and names combine alike.
@@ -72,6 +68,24 @@ impl Kind {
     {
         i != 0 || (self == Kind::Predicate && arity == 1)
     }
+}
+
+/// The byte of a token's kind, as it stands in the table, and 0 for a variable.
+#[tactic(auto, unfolding(crate::specs::Symbols::kind_of))]
+pub fn kind_byte(symbols: &[u8], t: u8) -> u8
+    ensures { result ≡ kind_of symbols.now t }
+{
+    if t < FIRST_SYMBOL {
+        return 0;
+    }
+    byte_at(symbols, 16 * (usize::from(t) - usize::from(FIRST_SYMBOL)))
+}
+
+/// Does a byte name a function or a name?
+pub fn is_function(code: u8) -> bool
+    ensures { result ≡ is_function code }
+{
+    Kind::try_from(code).is_ok_and(Kind::is_function)
 }
 
 /// How many terms follow a token.
