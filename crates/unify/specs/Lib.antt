@@ -14,3 +14,4 @@ pub mod Formed
 pub mod Final
 pub mod Pairs
 pub mod Parts
+pub mod Steps

@@ -3,8 +3,9 @@
 #![tactic(auto)]
 
 ghost use Rattle.std.specs.Prelude.{◌≡◌, ◌+◌, ◌*◌, ◌≤◌, ◌<◌, length, get_or};
+ghost use Rattle.records.specs.Symbols.{arity_of};
 ghost use Rattle.unify.specs.Forest.{Down, down_prop, find};
-ghost use Rattle.unify.specs.Nodes.{node, Past};
+ghost use Rattle.unify.specs.Nodes.{node, tok, Past};
 ghost use Rattle.unify.specs.Facts.{Given};
 ghost use Rattle.unify.specs.Merge.{Answer};
 ghost use Rattle.unify.specs.Inside.{Read, Done, Open};
@@ -123,6 +124,19 @@ impl<'a> Pair<'a> {
         end
     }
 
+    // The arguments of the symbol at p.
+    #[tactic(auto, using(crate::specs::Pairs::tokens_long))]
+    fn args(&self, p: usize) -> Arguments<'a>
+        requires { p < 2 * self.now.toks }
+        ensures { (result.pair ≡ self.now) × ((result.at ≡ p + 1) × (result.left ≡ arity_of self.now.symbols.now (tok (tokens_of self.now) p))) }
+    {
+        Arguments {
+            pair: *self,
+            at: p + 1,
+            left: arity(self.symbols, self.token(p)),
+        }
+    }
+
     // Do two facts begin with different symbols, or their first arguments? Then nothing unifies them.
     #[tactic(auto, using(crate::specs::Whole::heads_differ, crate::specs::Whole::firsts_differ, crate::specs::Whole::apart_where))]
     fn apart(&self, at: usize) -> bool
@@ -206,6 +220,37 @@ impl<'a> Pair<'a> {
     }
 }
 
+// The nodes of `left` arguments, one after another, from the place `at` on.
+#[derive(Drop)]
+struct Arguments<'a> {
+    pair: Pair<'a>,
+    at: usize,
+    left: usize,
+    ghost inside: { at ≤ 2 * pair.toks },
+}
+
+impl<'a> Iterator for Arguments<'a> {
+    ghost use Rattle.std.specs.Iterator.{at_most};
+    ghost use Rattle.unify.specs.Steps.{Steps};
+
+    type Item = usize;
+
+    ghost next_gives = { Steps };
+
+    ghost remaining = { λ s. at_most s.left };
+
+    #[tactic(auto, using(crate::specs::Pairs::tokens_long))]
+    fn next(&mut self) -> Option<usize> {
+        if self.left == 0 {
+            return None;
+        }
+        let at = self.at;
+        self.at = self.pair.past(at);
+        self.left -= 1;
+        Some(self.pair.node_at(at))
+    }
+}
+
 impl<'a> Classes<'a> {
     ghost use Rattle.unify.specs.Pairs.{tokens_of, nodes_of};
 
@@ -225,12 +270,10 @@ impl<'a> Classes<'a> {
             return marks[r] == OPEN;
         }
         marks[r] = OPEN;
-        let mut p = r + 1;
-        for _ in 0..arity(self.pair.symbols, self.pair.token(r)) {
-            if self.look(marks, self.pair.node_at(p)) {
+        for a in self.pair.args(r) {
+            if self.look(marks, a) {
                 return true;
             }
-            p = self.pair.past(p);
         }
         marks[r] = DONE;
         false

@@ -1,5 +1,6 @@
 -- `look` finds an open class or leaves a node done. The measure of its calls is the number of nodes not seen. Assumes nothing.
-use Prim.Native.Nat.{suc, ◌-◌, ◌*◌, ◌≤◌}
+use mathlib.Core.Path.{◌≡◌}
+use Prim.Native.Nat.{suc}
 use Rattle.records.specs.Symbols.{arity_of}
 use Rattle.unify.specs.Forest.{find}
 use Rattle.unify.specs.Inside.{zeros}
@@ -11,10 +12,14 @@ use Rattle.unify.proofs.Classes.+look.Given as goal
 abbrev pub decreases-look : goal.decreases-look
 decreases-look l = zeros l.marks.now
 
-abbrev pub invariant-loop : goal.invariant-loop
-invariant-loop l =
+abbrev pub invariant-loop-a : goal.invariant-loop-a
+invariant-loop-a l =
+    let w = l.a-iterator in
     let sy = l.self.pair.symbols.now in
     let ts = tokens_of l.self.pair in
     let rep = l.self.rep.now in
     let r = find rep l.i in
-    (l.p ≤ 2 * l.self.pair.toks) × Rest (nodes_of l.self.pair) rep l.initial.marks l.marks (args_at sy ts (suc r) (arity_of sy (tok ts r))) (args_at sy ts l.p (l.end - l.counter))
+    record {
+      same : w.pair ≡ l.self.pair;
+      left : Rest (nodes_of l.self.pair) rep l.initial.marks l.marks (args_at sy ts (suc r) (arity_of sy (tok ts r))) (args_at sy ts w.at w.left);
+    }
