@@ -309,13 +309,10 @@ impl<'a> Classes<'a> {
             out[0] = (r - 2 * self.pair.toks + FIRST_VARIABLE) as u16;
             return Some(1);
         }
-        let x = self.pair.token(r);
-        out[0] = u16::from(x);
+        out[0] = u16::from(self.pair.token(r));
         let mut len = 1;
-        let mut p = r + 1;
-        for _ in 0..arity(self.pair.symbols, x) {
-            len += self.write(&mut out[len..], self.pair.node_at(p))?;
-            p = self.pair.past(p);
+        for a in self.pair.args(r) {
+            len += self.write(&mut out[len..], a)?;
         }
         Some(len)
     }

@@ -1,12 +1,15 @@
 use mathlib.Core.Path.{◌≡◌, sym, ap, ◌∙◌}
 use mathlib.Core.List.{List, [], ◌++◌, append-nil}
 use Prim.Native.Nat.{ℕ, ◌-◌, ◌≤◌, ◌<◌}
+use native.Mathlib.Nat.{sub-zero}
 use native.Mathlib.Omega.{arith}
 use lib.ListN.{length, take, length-append, length-set}
 use borrow.Rule.Slice.PartMut.{put_mid, mid_of}
 use Rattle.std.proofs.Math.ListN.{drop, drop_of_length-le}
 use Rattle.std.proofs.Common.{length-drop, length-take, length-take-le, eqb-true}
 use Rattle.std.proofs.lemmas.Bool.{eqb-false}
+use Rattle.records.specs.Symbols.{arity_of}
+use Rattle.unify.specs.Nodes.{tok}
 use Rattle.unify.specs.Writer.{args_some, places_room, write_full, write_var, args_start, places_read, places_next, places_short, places_end}
 use Rattle.unify.specs.Pairs.{tokens_of, nodes_of, tokens_long, asked}
 use Rattle.unify.proofs.Classes.+write.Goals as goal
@@ -33,52 +36,67 @@ returns-then-self-r t c =
     let n = eqb-false (length a.out.now) 0 (sym c.if-is_empty.ensures) in
     write_var (asked a.self.now a.i c.requires.node c.requires.read) a.out.now c.root-r.result c.root-r.ensures.0 (omega arith) c.if-self-r.true
 
-pub loop-init : goal.loop-init
-loop-init t c =
+pub loop-a-init : goal.loop-a-init
+loop-a-init t c =
     let a = c.args in
+    let sy = a.self.now.pair.symbols.now in
+    let ts = tokens_of a.self.now.pair in
     let n = eqb-false (length a.out.now) 0 (sym c.if-is_empty.ensures) in
     let A = asked a.self.now a.i c.requires.node c.requires.read in
-    (omega (arith, c.if-self-r.false), rw c.from.ensures (args_start A a.out.now c.root-r.result c.token-x.result _ c.root-r.ensures.0 (omega (arith, c.if-self-r.false)) (omega arith) c.token-x.ensures c.arity-end.ensures.0))
+    let w = c.args-a-items.ensures in
+    rw c.into_iter-a-iterator.ensures.into_iter_gives
+    (record {
+      same = w.0;
+      left = rw (w.1.0, w.1.1, ← sub-zero (arity_of sy (tok ts c.root-r.result)), c.from.ensures)
+          (args_start A a.out.now c.root-r.result c.token.result _ c.root-r.ensures.0 (omega (arith, c.if-self-r.false)) (omega arith) c.token.ensures (ap (arity_of sy) (sym c.token.ensures)));
+    })
 
 pub write-requires : goal.write-requires
 write-requires t c =
     let pair = c.args.self.now.pair in
-    let n = tokens_long pair in
-    let P = c.loop.invariant.1 in
+    let w = c.loop-a.a-iterator in
+    let I = c.loop-a.invariant in
+    let s = c.in-Some.ensures.steps in
     let d : length c.args.out.now ≡ t = c.decreases in
-    let x : length (mid_of c.loop.len (length c.loop.out - c.loop.len) c.loop.out) < t = omega (arith, d, rest_long c.loop.len c.loop.out P.inn, args_some P, P.inn, c.loop.auto.out, length-set c.args.out.now 0 c.from.result) in
-    (x, (c.node_at.ensures.1, places_read pair.symbols.now (tokens_of pair) _ _ _ c.loop-test.true (omega (arith, c.loop.invariant.0, n)) c.node_at.ensures.0 P))
+    let x : length (mid_of c.loop-a.len (length c.loop-a.out - c.loop-a.len) c.loop-a.out) < t = omega (arith, d, rest_long c.loop-a.len c.loop-a.out I.left.inn, args_some I.left, I.left.inn, c.loop-a.auto.out, length-set c.args.out.now 0 c.from.result) in
+    (x, (rw I.same at s.2, places_read pair.symbols.now (tokens_of pair) w.at w.left 0 s.0 (omega (arith, rw I.same at w.inside, tokens_long pair)) (rw I.same at s.1) (rw (← sub-zero w.left) at I.left)))
 
 pub returns-in_err-len : goal.returns-in_err-len
 returns-in_err-len t c =
     let a = c.args in
-    let n = tokens_long a.self.now.pair in
+    let pair = a.self.now.pair in
+    let w = c.loop-a.a-iterator in
+    let I = c.loop-a.invariant in
+    let s = c.in-Some.ensures.steps in
     let A = asked a.self.now a.i c.requires.node c.requires.read in
-    let P = c.loop.invariant.1 in
-    let v = c.write.auto.out ∙ rest_long c.loop.len c.loop.out P.inn in
+    let v = c.write.auto.out ∙ rest_long c.loop-a.len c.loop-a.out I.left.inn in
     rw c.from_residual.ensures
-    (places_short A (omega (arith, c.if-self-r.false, c.root-r.ensures.0)) _ _ _ P _ c.write.new.out c.node_at.result c.loop-test.true (omega (arith, c.loop.invariant.0, n)) c.node_at.ensures.0 (put_long c.loop.len c.loop.out P.inn c.write.new.out v) v c.in_err-len.ensures)
+    (places_short A (omega (arith, c.if-self-r.false, c.root-r.ensures.0)) w.at w.left 0 (rw (← sub-zero w.left) at I.left) _ c.write.new.out _ s.0 (omega (arith, rw I.same at w.inside, tokens_long pair)) (rw I.same at s.1) (put_long c.loop-a.len c.loop-a.out I.left.inn c.write.new.out v) v c.in_err-len.ensures)
 
 pub overflow_add-len : goal.overflow_add-len
 overflow_add-len t c =
     let pair = c.args.self.now.pair in
-    let n = tokens_long pair in
-    let P = c.loop.invariant.1 in
-    let v = c.write.auto.out ∙ rest_long c.loop.len c.loop.out P.inn in
-    omega (arith, places_room pair.symbols.now (tokens_of pair) _ _ _ c.loop-test.true (omega (arith, c.loop.invariant.0, n)) c.node_at.ensures.0 P c.write.new.out _ v c.in_ok-len.ensures, c.loop.auto.out, length-set c.args.out.now 0 c.from.result)
+    let w = c.loop-a.a-iterator in
+    let I = c.loop-a.invariant in
+    let s = c.in-Some.ensures.steps in
+    let v = c.write.auto.out ∙ rest_long c.loop-a.len c.loop-a.out I.left.inn in
+    omega (arith, places_room pair.symbols.now (tokens_of pair) w.at w.left 0 s.0 (omega (arith, rw I.same at w.inside, tokens_long pair)) (rw I.same at s.1) (rw (← sub-zero w.left) at I.left) c.write.new.out _ v c.in_ok-len.ensures, c.loop-a.auto.out, length-set c.args.out.now 0 c.from.result)
 
-pub loop-preserved : goal.loop-preserved
-loop-preserved t c =
+pub loop-a-preserved : goal.loop-a-preserved
+loop-a-preserved t c =
     let pair = c.args.self.now.pair in
-    let n = tokens_long pair in
-    let P = c.loop.invariant.1 in
-    let v = c.write.auto.out ∙ rest_long c.loop.len c.loop.out P.inn in (
-      omega (arith, c.past-p.ensures.0, n),
-      rw (rest_put c.loop.len c.loop.out P.inn c.write.new.out)
-          (places_next pair.symbols.now (tokens_of pair) _ _ _ c.loop-test.true (omega (arith, c.loop.invariant.0, n)) c.node_at.ensures.0 P c.write.new.out _ _ v c.past-p.ensures c.in_ok-len.ensures),
-    )
+    let w = c.loop-a.a-iterator in
+    let I = c.loop-a.invariant in
+    let s = c.in-Some.ensures.steps in
+    let v = c.write.auto.out ∙ rest_long c.loop-a.len c.loop-a.out I.left.inn in
+    record {
+      same = s.5 ∙ I.same;
+      left = rw (rest_put c.loop-a.len c.loop-a.out I.left.inn c.write.new.out, s.4)
+          (places_next pair.symbols.now (tokens_of pair) w.at w.left 0 s.0 (omega (arith, rw I.same at w.inside, tokens_long pair)) (rw I.same at s.1) (rw (← sub-zero w.left) at I.left) c.write.new.out _ _ v (rw I.same at s.3) c.in_ok-len.ensures);
+    }
 
 pub returns : goal.returns
 returns t c =
     let a = c.args in
-    places_end (asked a.self.now a.i c.requires.node c.requires.read) (omega (arith, c.if-self-r.false, c.root-r.ensures.0)) _ _ _ c.loop.invariant.1 (omega (arith, c.loop-test.false))
+    let w = c.loop-a.a-iterator in
+    places_end (asked a.self.now a.i c.requires.node c.requires.read) (omega (arith, c.if-self-r.false, c.root-r.ensures.0)) w.at w.left 0 (rw (← sub-zero w.left) at c.loop-a.invariant.left) (omega (arith, c.in-None.ensures.steps.0))

@@ -1,5 +1,6 @@
 -- `write` writes the codes of a node's term. The measure of its calls is the room. Assumes nothing.
-use Prim.Native.Nat.{suc, ◌-◌, ◌*◌, ◌≤◌}
+use mathlib.Core.Path.{◌≡◌}
+use Prim.Native.Nat.{suc}
 use lib.ListN.{length}
 use Rattle.records.specs.Symbols.{arity_of}
 use Rattle.unify.specs.Forest.{find}
@@ -11,9 +12,13 @@ use Rattle.unify.proofs.Classes.+write.Given as goal
 abbrev pub decreases-write : goal.decreases-write
 decreases-write l = length l.out.now
 
-abbrev pub invariant-loop : goal.invariant-loop
-invariant-loop l =
+abbrev pub invariant-loop-a : goal.invariant-loop-a
+invariant-loop-a l =
+    let w = l.a-iterator in
     let sy = l.self.pair.symbols.now in
     let ts = tokens_of l.self.pair in
     let r = find l.self.rep.now l.i in
-    (l.p ≤ 2 * l.self.pair.toks) × Args (nodes_of l.self.pair) l.self.rep.now l.out l.len (tok ts r) (args_at sy ts (suc r) (arity_of sy (tok ts r))) (args_at sy ts l.p (l.end - l.counter))
+    record {
+      same : w.pair ≡ l.self.pair;
+      left : Args (nodes_of l.self.pair) l.self.rep.now l.out l.len (tok ts r) (args_at sy ts (suc r) (arity_of sy (tok ts r))) (args_at sy ts w.at w.left);
+    }
