@@ -181,20 +181,13 @@ impl<'a> Pair<'a> {
         if 2 * self.toks <= hi {
             return true;
         }
-        let x = self.token(lo);
-        if x != self.token(hi) {
+        if self.token(lo) != self.token(hi) {
             return false;
         }
-        let mut p = lo + 1;
-        let mut q = hi + 1;
-        for _ in 0..arity(self.symbols, x) {
-            let u = self.node_at(p);
-            let v = self.node_at(q);
+        for (u, v) in self.args(lo).zip(self.args(hi)) {
             if !self.merge(rep, u, v) {
                 return false;
             }
-            p = self.past(p);
-            q = self.past(q);
         }
         true
     }

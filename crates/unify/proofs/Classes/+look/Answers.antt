@@ -5,7 +5,8 @@ use lib.ListN.{get_or, set, length-set}
 use Rattle.records.specs.Symbols.{arity_of}
 use Rattle.unify.specs.Nodes.{tok}
 use Rattle.unify.specs.Look.{look_var, look_marked, look_start, look_end, look_zeros, asks_arg, rest_next, rest_end}
-use Rattle.unify.specs.Pairs.{tokens_of, tokens_long, asks}
+use Rattle.unify.specs.Steps.{stands}
+use Rattle.unify.specs.Pairs.{tokens_of, asks}
 use Prim.Native.Nat.{ℕ}
 use Rattle.unify.proofs.Classes.+look.Goals as goal
 
@@ -56,7 +57,7 @@ loop-a-preserved t c =
     let s = c.in-Some.ensures.steps in
     record {
       same = s.5 ∙ I.same;
-      left = rw s.4 (rest_next pair.symbols.now (tokens_of pair) c.args.self.now.rep.now _ _ _ _ w.at c.next.new.self.at w.left 0 _ s.0 (omega (arith, rw I.same at w.inside, tokens_long pair)) (rw I.same at s.3) (rw I.same at s.1) (rw (← sub-zero w.left) at I.left) c.if-look.ensures);
+      left = rw s.4 (rest_next pair.symbols.now (tokens_of pair) c.args.self.now.rep.now _ _ _ _ w.at c.next.new.self.at w.left 0 _ s.0 (stands w pair I.same) (rw I.same at s.3) (rw I.same at s.1) (rw (← sub-zero w.left) at I.left) c.if-look.ensures);
     }
 
 pub returns : goal.returns
