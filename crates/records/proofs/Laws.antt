@@ -1,6 +1,6 @@
 -- Laws on lists of bytes that the functions' proofs cite: a turn of each loop, and its end. Assumes nothing.
-use mathlib.Core.Path.{◌≡◌, refl, sym, ap, ◌∙◌}
-use mathlib.Core.Bool.{Bool, true, false, not}
+use mathlib.Core.Path.{◌≡◌, refl, ap, ◌∙◌}
+use mathlib.Core.Bool.{true, false}
 use mathlib.Core.List.{List, [], ◌∷◌, ◌++◌}
 use Prim.Native.Nat.{ℕ, suc, ◌+◌, ◌-◌, ◌*◌, ◌/◌, ◌%◌, ◌≤◌, ◌<◌}
 use native.Mathlib.Omega.{arith}
@@ -19,13 +19,6 @@ use Rattle.records.specs.Symbols.{same_bytes}
 -- ---- what is left of n after i, as a loop counts it
 pub less : (n i : ℕ) → i < n → n - i ≡ suc (n - (i + 1))
 less n i h = omega arith
-
--- ---- what a test tells, as `if !f(..)` branches on it
-pub says_no : {b x : Bool} → b ≡ x → not b ≡ true → x ≡ false
-says_no {b} e t = sym e ∙ not-true b t
-
-pub says_yes : {b x : Bool} → b ≡ x → not b ≡ false → x ≡ true
-says_yes {b} e t = sym e ∙ not-false b t
 
 -- ---- a list from a place on: its first byte and what is behind it, or nothing
 pub ruleset walk = (drop_more, drop_of_length-le, eq-eqb, ne_eqb)

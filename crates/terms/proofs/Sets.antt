@@ -4,15 +4,13 @@ use mathlib.Core.Bool.{Bool, true, false}
 use mathlib.Core.List.{List, [], ◌∷◌}
 use Prim.Native.Nat.{ℕ, zero, suc, ◌+◌, ◌-◌, ◌*◌, ◌%◌, ◌^◌, ◌≤◌, ◌<◌}
 use native.Mathlib.Nat.{mod-eq_of_lt}
-use native.Mathlib.Numerals.{add-one}
 use native.Mathlib.Omega.{arith}
 use borrow.Author.Tests.{leb-true, leb-false, le-leb, lt-leb, ltb-false, eqb-true, eqb-false}
 use lib.Dec.{leb, ltb, eqb}
 use lib.Bits.{bit_or, or_lt}
 use lib.Pow.{pow-lt}
 use lib.Count.{ones, count_trailing_zeros, trailing_le}
-use lib.ListN.{length, drop, get_or, drop_of_length-le}
-use lib.Seq.{drop-cons}
+use lib.ListN.{length}
 use Rattle.model.specs.Term.{both, elem, distinct}
 use Rattle.terms.specs.Vars.{variables, held, held_of, all_held, with_var, with_vars, gap_from}
 use Rattle.terms.proofs.Digits.{digit, digit_same, digit_other, digit_zero, digit_not, ones_set, trailing_below, trailing_here}
@@ -75,14 +73,6 @@ withs_lt [] m h = h
 withs_lt (t ∷ l) m h = withs_lt l (with_var m t) (with_lt m t h)
 
 -- ---- the turn of a loop over the tokens, and its end
-pub withs_step : (l : List ℕ) (i m : ℕ) → i < length l → with_vars m (drop i l) ≡ with_vars (with_var m (get_or l i 0)) (drop (i + 1) l)
-unfolding with_vars
-withs_step l i m h = rw (add-one, drop-cons l i 0 h)
-
-pub withs_end : (l : List ℕ) (i m : ℕ) → length l ≤ i → with_vars m (drop i l) ≡ m
-unfolding with_vars
-withs_end l i m h = rw (drop_of_length-le l h)
-
 -- ---- a set says which variables there are
 -- The set m holds those of the variables that are among `vs`.
 abbrev Holds : ℕ → List ℕ → Type 0

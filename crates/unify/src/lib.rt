@@ -162,8 +162,8 @@ impl<'a> Pair<'a> {
         u != v
     }
 
-    // `rep` is written here, so it is no part of a `Classes` yet.
     // Unites the classes of two nodes, and of their arguments in pairs; false where two symbols differ.
+    // `rep` is written here, so it is no part of a `Classes` yet.
     fn merge(&self, rep: &mut [u16], i: usize, j: usize) -> bool
         requires long { length rep.old ≡ 2 * self.now.toks + 128 }
         requires down { Down rep.old }
