@@ -48,6 +48,7 @@ pub struct Buffers {
 }
 
 impl Buffers {
+    /// Room that holds nothing yet; a case is read over what it holds.
     pub fn new() -> Buffers {
         Buffers {
             tables: TableRoom {
@@ -59,7 +60,7 @@ impl Buffers {
         }
     }
 
-    // Reads the rest of a case and answers it. No run is answered yet: each counts as a bad case.
+    /// Reads the rest of a case and answers it. No run is answered yet: each counts as a bad case.
     pub fn answer<R: Read, W: Write>(
         &mut self,
         case: Case,

@@ -36,7 +36,7 @@ pub struct Lengths {
 impl Lengths {
     // Has each table at most the bytes that are lent for it?
     #[tactic(auto, unfolding(crate::specs::Heads::within, model::specs::Term::both))]
-    fn fit(self) -> bool
+    fn fits(self) -> bool
         ensures { result ≡ within self.symbols self.rules self.query SYMBOLS RULES QUERY }
     {
         self.symbols <= SYMBOLS && self.rules <= RULES && self.query <= QUERY
@@ -97,10 +97,7 @@ fn number(s: &[u8; HEAD], i: usize) -> usize
 fn run_head(lengths: Lengths, room: Room) -> Option<Case>
     ensures { result ≡ run_head lengths room }
 {
-    if !room.fits() {
-        return None;
-    }
-    Some(Case::Run(lengths, room))
+    room.fits().then_some(Case::Run(lengths, room))
 }
 
 // A check with such tables and such last three numbers, unless it is bad.
@@ -108,19 +105,16 @@ fn run_head(lengths: Lengths, room: Room) -> Option<Case>
 fn check_head(lengths: Lengths, n: usize, y: usize, z: usize) -> Option<Case>
     ensures { result ≡ check_head lengths n y z }
 {
-    if n <= STEPS && y == 0 && z == 0 {
-        Some(Case::Check(lengths, n))
-    } else {
-        None
-    }
+    (n <= STEPS && y == 0 && z == 0).then_some(Case::Check(lengths, n))
 }
 
+// The kind is a byte of the stream, as its format has it; here it becomes a case.
 // The case of this kind with such tables and such last three numbers, unless it is bad.
 #[tactic(auto, unfolding(crate::specs::Heads::tables_head, crate::specs::Heads::kind_head))]
 fn tables_head(kind: u8, lengths: Lengths, x: usize, y: usize, z: usize) -> Option<Case>
     ensures { result ≡ tables_head kind lengths.symbols lengths.rules lengths.query x y z }
 {
-    if !lengths.fit() {
+    if !lengths.fits() {
         return None;
     }
     match kind {
@@ -150,7 +144,7 @@ fn head_of(s: &[u8; HEAD]) -> Option<Case>
     tables_head(s[0], lengths, number(s, 13), number(s, 17), number(s, 21))
 }
 
-// Reads until a buffer is full or the input ends. How many bytes came? They stand at its front, also where a later read fails.
+/// Reads until a buffer is full or the input ends. How many bytes came? They stand at its front, also where a later read fails.
 pub fn read_full<R: Read>(input: &mut R, buf: &mut [u8]) -> io::Result<usize>
     ensures within { IfOk result (λ n. n ≤ length buf.new) }
     ensures bytes { IfOk result (λ n. Consumes (R.remaining input.old) (R.remaining input.new) (take n buf.new)) }
@@ -169,7 +163,7 @@ pub fn read_full<R: Read>(input: &mut R, buf: &mut [u8]) -> io::Result<usize>
     Ok(done)
 }
 
-// Reads n bytes to the front of a buffer, and gives them back. Bad where there is no room for them or the input ends before them.
+/// Reads n bytes to the front of a buffer, and gives them back. Bad where there is no room for them or the input ends before them.
 pub fn fill<'a, R: Read>(input: &mut R, buf: &'a mut [u8], n: usize) -> Result<&'a [u8], CaseError>
     ensures len { IfOk result (λ s. length s.now ≡ n) }
     ensures bytes { IfOk result (λ s. Consumes (R.remaining input.old) (R.remaining input.new) s.now) }
@@ -184,7 +178,7 @@ pub fn fill<'a, R: Read>(input: &mut R, buf: &'a mut [u8], n: usize) -> Result<&
     Ok(&buf[..n])
 }
 
-// Reads the head of the next case. There is none where the input ends before its first byte.
+/// Reads the head of the next case. There is none where the input ends before its first byte.
 pub fn read_head<R: Read>(input: &mut R) -> Result<Option<Case>, CaseError>
     ensures case { IfOk result (λ o. IfSome o (λ c. TakesHead (R.remaining input.old) (R.remaining input.new) (Some c))) }
     ensures end { IfOk result (λ o. IsNone o → EndsWithin (R.remaining input.old) (R.remaining input.new) 0 1) }

@@ -4,7 +4,7 @@ ghost use Rattle.records.specs.Symbols.{zeros};
 ghost use Rattle.records.specs.Found.{found_of};
 ghost use Rattle.checker.specs.Steps.{two, fact_place, step_size, step_tokens, steps_length};
 
-use matching::match_at;
+use matching::{VARIABLES, match_at};
 use records::parts::{byte_at, part, rest, zeros};
 use records::rules::{tokens, tokens_good};
 use records::tables::Tables;
@@ -21,7 +21,7 @@ fn two(s: &[u8], i: usize) -> usize
 }
 
 // What steps have room for: `hyps` slots, each for the number of a step that is used, and `toks` tokens; and the most steps of a list.
-#[derive(Clone, Copy)]
+#[derive(Clone, Copy, Debug)]
 pub(crate) struct Form {
     pub hyps: usize,
     pub toks: usize,
@@ -51,7 +51,7 @@ impl Form {
     pub(crate) fn whole(self, n: usize) -> bool
         ensures { result ≡ steps_length self.hyps self.toks self.most n }
     {
-        (1..=self.most * self.size()).contains(&n) && n % self.size() == 0
+        (1..=self.most * self.size()).contains(&n) && n.is_multiple_of(self.size())
     }
 
     // The very tokens of a step.
@@ -72,7 +72,7 @@ impl Form {
 }
 
 // A list of steps of one form, with the tables that it is judged by.
-#[derive(Clone, Copy)]
+#[derive(Clone, Copy, Debug)]
 pub(crate) struct StepList<'a> {
     pub tables: Tables<'a>,
     pub steps: &'a [u8],
@@ -101,6 +101,14 @@ impl StepList<'_> {
             && self.form.slots_zero(step, k)
     }
 
+    // Where the fact of step i begins.
+    fn fact_at(&self, i: usize) -> usize
+        requires { (i + 1) * size_of self.now ≤ length self.now.steps.now }
+        ensures { result ≡ i * size_of self.now + fact_place self.now.form.hyps }
+    {
+        i * self.form.size() + self.form.place()
+    }
+
     // Does each hypothesis of a rule match the fact of the step that its slot names, which is before step i?
     #[tactic(auto, using(crate::proofs::Laws::uses))]
     fn uses_matched(&self, rule: &Facts, step: &[u8], i: usize, binds: &mut [u16]) -> bool
@@ -114,7 +122,7 @@ impl StepList<'_> {
             if i <= u {
                 return false;
             }
-            let from = u * self.form.size() + self.form.place();
+            let from = self.fact_at(u);
             if !match_at(rule.symbols, rule.fact(k + 1), self.steps, from, binds) {
                 return false;
             }
@@ -128,10 +136,14 @@ impl StepList<'_> {
         requires { (i + 1) * size_of self.now ≤ length self.now.steps.now }
         ensures { result ≡ follows_in self.now rule.now step.now i }
     {
-        let mut binds = [0u16; 64];
-        let from = i * self.form.size() + self.form.place();
-        match_at(rule.symbols, rule.fact(0), self.steps, from, &mut binds)
-            && self.uses_matched(rule, step, i, &mut binds)
+        let mut binds = [0; VARIABLES];
+        match_at(
+            rule.symbols,
+            rule.fact(0),
+            self.steps,
+            self.fact_at(i),
+            &mut binds,
+        ) && self.uses_matched(rule, step, i, &mut binds)
     }
 
     // Is step i good: of good form, and does it follow?
@@ -148,7 +160,7 @@ impl StepList<'_> {
         self.form_good(step) && self.follows(&Facts::of_record(symbols, rule), step, i)
     }
 
-    // The first bad one of the whole steps.
+    // The first bad one of the whole steps. A loop: what `step_good` asks of its place is not proved inside a closure.
     #[tactic(auto, using(crate::proofs::Laws::steps))]
     pub(crate) fn first_bad(&self) -> Option<usize>
         ensures { result ≡ found_of (first_bad_in self.now) }

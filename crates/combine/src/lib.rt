@@ -1,5 +1,5 @@
 // Combination of two records: the instances of their facts gathered, without copies, its variables numbered.
-// A number is narrowed by `as` where the proof shows that it fits: `try_from` would add a refusal that never comes.
+// A number is cast by `as` where the proof shows that it fits: `try_from` would add a refusal that never comes.
 #![tactic(auto)]
 
 ghost use Rattle.std.specs.Prelude.{◌≡◌, List, [], ◌∷◌, ◌++◌, ℕ, ◌+◌, ◌-◌, ◌*◌, ◌≤◌, ◌<◌, length, take, get_or, is_ok, All};
@@ -19,8 +19,7 @@ ghost use Rattle.combine.specs.Numbers.{Naming, Named, Numbered};
 ghost use Rattle.combine.specs.Settle.{Numberable, Writable};
 ghost use Rattle.combine.specs.Final.{Combinable, Combines, CombinationIs};
 
-use records::parts::byte_at;
-use terms::{Facts, with};
+use terms::{hypotheses, with};
 use unify::{Classes, FIRST_VARIABLE, Pair};
 
 /// The rule does not fit: more hypotheses, tokens or variables than allowed.
@@ -120,9 +119,10 @@ fn number(text: &[u16], vars: usize, names: &mut [u8], rec: &mut [u8]) -> Result
     Ok(())
 }
 
-impl<'a, 'b> Draft<'a, 'b> {
+impl Draft<'_, '_> {
     ghost use Rattle.combine.specs.Draft.{node_of, side_of, nodes_of, Holds, IsSameRoom, Leaves, IsWritten};
 
+    // `IsSameRoom` speaks of two states, so no ghost field can hold it.
     // Begins with the instance of the fact at a place: the conclusion.
     fn start(&mut self, place: usize) -> Result<(), TooLarge>
         requires { place ≤ 2 * self.old.of.classes.pair.toks }
@@ -177,8 +177,7 @@ impl<'a, 'b> Draft<'a, 'b> {
         ensures same { IsSameRoom self.old self.new }
         ensures left { (ns : List ℕ) → Holds self.old ns → Leaves self.old self.new (ns ++ side_of self.old.of rec.now base skip) result }
     {
-        let facts = Facts::of_record(self.of.classes.pair.symbols, rec);
-        for (at, _) in facts.walk(1, usize::from(byte_at(rec, 0))) {
+        for (at, _) in hypotheses(self.of.classes.pair.symbols, rec) {
             let place = base + at;
             if place == skip {
                 continue;
@@ -220,6 +219,7 @@ impl<'a, 'b> Draft<'a, 'b> {
 }
 
 /// Writes the combination of the rules in a and b upon the hypothesis at the place `at` of b, after `unify` found these classes.
+// Each lent sheet goes by itself: in a struct of `&mut` the contract would speak of its entry and exit.
 /// It is too large with more than `hyps` hypotheses, `toks` tokens or `vars` variables.
 pub fn combined<'b>(
     classes: &Classes,

@@ -8,6 +8,7 @@ ghost use Rattle.records.specs.Found.{found_of};
 ghost use Rattle.imply.specs.Imply.{free, used_by, carried as carried_by, implies_bytes, first_bytes};
 ghost use Rattle.imply.specs.Filter.{may_match, has_place, may_imply};
 
+use matching::VARIABLES;
 use records::FIRST_SYMBOL;
 use records::parts::byte_at;
 use records::rules::tokens;
@@ -24,7 +25,7 @@ pub fn is_free(u: u32, j: u32) -> bool
     requires { j < 32 }
     ensures { result ≡ free u j }
 {
-    (u >> j) % 2 == 0
+    (u >> j).is_multiple_of(2)
 }
 
 /// The set u with j.
@@ -61,7 +62,7 @@ fn may_match(pattern: &[u8], text: &[u8], from: usize) -> bool
 }
 
 /// A rule record that other records may imply, under a symbol table.
-#[derive(Clone, Copy)]
+#[derive(Clone, Copy, Debug)]
 pub struct Target<'a> {
     pub symbols: &'a [u8],
     pub record: &'a [u8],
@@ -69,10 +70,10 @@ pub struct Target<'a> {
     pub ghost few: { get_or record.now 0 0 ≤ 32 },
 }
 
-impl<'a> Target<'a> {
+impl Target<'_> {
     // Do the hypotheses of r from hypothesis k on go one to one into those that are not used, under the bindings?
     #[tactic(auto, using(crate::proofs::Laws::ways))]
-    fn carried(&self, r: &[u8], k: usize, used: u32, binds: [u16; 64]) -> bool
+    fn carried(&self, r: &[u8], k: usize, used: u32, binds: [u16; VARIABLES]) -> bool
         ensures { result ≡ carried_by (arity_of self.now.symbols.now) (tokens_of r.now) (tokens_of self.now.record.now) (get_or self.now.record.now 0 0) k (get_or r.now 0 0 - k) used binds }
     {
         let Target { symbols, record } = *self;
@@ -80,14 +81,14 @@ impl<'a> Target<'a> {
             return true;
         }
         let hyp = terms::hypothesis(symbols, r, k);
-        let own = Facts::of_record(symbols, record);
-        for (j, (at, _)) in own.walk(1, usize::from(hypotheses(record))).enumerate() {
+        let text = Facts::of_record(symbols, record).tokens;
+        for (j, (at, _)) in terms::hypotheses(symbols, record).enumerate() {
             let j = j as u32; // a set has at most 32 members, as is proved
-            if !is_free(used, j) || !may_match(hyp, own.tokens, at) {
+            if !is_free(used, j) || !may_match(hyp, text, at) {
                 continue;
             }
             let mut mine = binds;
-            if matching::match_at(symbols, hyp, own.tokens, at, &mut mine)
+            if matching::match_at(symbols, hyp, text, at, &mut mine)
                 && self.carried(r, k + 1, mark(used, j), mine)
             {
                 return true;
@@ -109,19 +110,24 @@ impl<'a> Target<'a> {
             )
     }
 
-    /// Does the record r imply this one?
-    #[tactic(auto, using(crate::proofs::Laws::implies_cheap), unfolding(crate::specs::Imply::implies_bytes, matching::specs::Match::onward))]
-    pub fn implied_by(&self, r: &[u8]) -> bool
+    // Do the conclusion and the hypotheses of r go into those of this one, by the full test?
+    #[tactic(auto, unfolding(crate::specs::Imply::implies_bytes, matching::specs::Match::onward))]
+    fn carries(&self, r: &[u8]) -> bool
         ensures { result ≡ implies_bytes self.now.symbols.now r.now self.now.record.now }
     {
-        if !self.may_be_implied_by(r) {
-            return false;
-        }
         let Target { symbols, record } = *self;
         let concl = Facts::of_record(symbols, r).fact(0);
         let text = Facts::of_record(symbols, record).tokens;
-        let mut binds = [0; 64];
+        let mut binds = [0; VARIABLES];
         matching::match_at(symbols, concl, text, 0, &mut binds) && self.carried(r, 0, 0, binds)
+    }
+
+    /// Does the record r imply this one?
+    #[tactic(auto, using(crate::proofs::Laws::implies_cheap))]
+    pub fn implied_by(&self, r: &[u8]) -> bool
+        ensures { result ≡ implies_bytes self.now.symbols.now r.now self.now.record.now }
+    {
+        self.may_be_implied_by(r) && self.carries(r)
     }
 
     // May a fact match one of the hypotheses?
@@ -129,9 +135,9 @@ impl<'a> Target<'a> {
     fn has_place(&self, fact: &[u8]) -> bool
         ensures { result ≡ has_place (arity_of self.now.symbols.now) (tokens_of self.now.record.now) (get_or self.now.record.now 0 0) fact.now }
     {
-        let own = Facts::of_record(self.symbols, self.record);
-        for (at, _) in own.walk(1, usize::from(hypotheses(self.record))) {
-            if may_match(fact, own.tokens, at) {
+        let text = tokens(self.record);
+        for (at, _) in terms::hypotheses(self.symbols, self.record) {
+            if may_match(fact, text, at) {
                 return true;
             }
         }
@@ -145,7 +151,7 @@ impl<'a> Target<'a> {
         requires { toks ≤ 248 }
         ensures { result ≡ found_of (first_bytes self.now.symbols.now toks self.now.record.now count 0 table.now) }
     {
-        // The walk over a record's hypotheses gives the record up by the label.
+        // A loop with a label, which yields the number by break; the walk inside gives a record up by it: a rule of the project.
         let mut records = table.chunks(toks + 8).take(count).enumerate();
         'scan: loop {
             let Some((number, rec)) = records.next() else {
@@ -158,13 +164,12 @@ impl<'a> Target<'a> {
                 continue;
             }
             // Each hypothesis needs a place in the target; once all have one, the full test decides.
-            let facts = Facts::of_record(self.symbols, rec);
-            for (_, fact) in facts.walk(1, usize::from(hypotheses(rec))) {
+            for (_, fact) in terms::hypotheses(self.symbols, rec) {
                 if !self.has_place(fact) {
                     continue 'scan;
                 }
             }
-            if self.implied_by(rec) {
+            if self.carries(rec) {
                 break 'scan Some(number);
             }
         }

@@ -12,7 +12,7 @@ pub mod tables; // tables.rt: which table of an input is refused
 pub const FIRST_SYMBOL: u8 = 64;
 
 /// The most hypotheses, tokens and variables of a rule. A record has room for `toks` tokens.
-#[derive(Clone, Copy)]
+#[derive(Clone, Copy, Debug)]
 pub struct Limits {
     pub hyps: usize,
     pub toks: usize,
@@ -38,7 +38,7 @@ pub enum Refusal {
 impl Fault {
     ghost use Rattle.records.specs.Input.{fault_place};
 
-    /// A record's number, or 65535 for the length.
+    /// A record's number, or 65535 for the length. Places and numbers are what programs print.
     pub fn place(self) -> usize
         ensures { result ≡ fault_place self }
     {

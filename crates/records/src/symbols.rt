@@ -89,6 +89,7 @@ pub fn is_function(code: u8) -> bool
 }
 
 /// How many terms follow a token.
+// Widened before the subtraction: faster, and the walks ask for every token.
 #[tactic(auto, unfolding(crate::specs::Symbols::arity_of))]
 pub fn arity(symbols: &[u8], t: u8) -> usize
     ensures { (result ≡ arity_of symbols.now t) × (result < 256) }
@@ -157,6 +158,7 @@ fn symbol_good(symbols: &[u8], i: usize, rec: &[u8]) -> bool
         && name_new(symbols, i, name)
 }
 
+// A loop, here and over rules: the clause is a recursion over the records, which `position` leaves open.
 /// The first bad one of the table's whole records.
 #[tactic(auto, using(crate::proofs::SymbolSteps::steps))]
 pub fn first_bad_symbol(symbols: &[u8]) -> Option<usize>
@@ -175,5 +177,5 @@ pub fn first_bad_symbol(symbols: &[u8]) -> Option<usize>
 pub fn symbols_length(n: usize) -> bool
     ensures { result ≡ symbols_length n }
 {
-    (16..=2048).contains(&n) && n % 16 == 0
+    (16..=2048).contains(&n) && n.is_multiple_of(16)
 }

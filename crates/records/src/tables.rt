@@ -21,7 +21,7 @@ fn rules_length(toks: usize, n: usize) -> bool
     ensures { result ≡ rules_length toks n }
 {
     let size = toks + 8;
-    n <= 256 * size && n % size == 0
+    n <= 256 * size && n.is_multiple_of(size)
 }
 
 impl Tables<'_> {

@@ -143,4 +143,4 @@ pub ruleset walk = (drop_more, drop_of_length-le)
 
 pub ruleset opens = (open_symbol, open_variable, open_long)
 
-pub ruleset walks = (hypotheses_start)
+pub ruleset walks = (hypotheses_start, open_yes, open_end)

@@ -1,7 +1,7 @@
 // Inside one record: the walk over arities, fact n as the very part of the record, open facts, and the set of variables.
 #![tactic(auto)]
 
-ghost use Rattle.std.specs.Prelude.{◌≡◌, [], ◌+◌, ◌≤◌, ◌<◌, length, drop};
+ghost use Rattle.std.specs.Prelude.{◌≡◌, [], ◌+◌, ◌≤◌, ◌<◌, length, drop, get_or};
 ghost use Rattle.model.specs.Term.{distinct};
 ghost use Rattle.records.specs.Tokens.{span as span_of};
 ghost use Rattle.records.specs.Symbols.{arity_of};
@@ -18,7 +18,7 @@ use records::symbols::arity;
 const LAST_VAR: u8 = 32;
 
 /// The facts that stand one after another in a list of tokens, under a symbol table. Fact 0 is the conclusion.
-#[derive(Clone, Copy)]
+#[derive(Clone, Copy, Debug)]
 pub struct Facts<'s, 'a> {
     pub symbols: &'s [u8],
     pub tokens: &'a [u8],
@@ -92,7 +92,7 @@ impl<'s, 'a> Facts<'s, 'a> {
 }
 
 /// A walk over `left` facts from fact `next` on, which stands at the place `at`. It gives each fact's place and its very tokens.
-#[derive(Drop)]
+#[derive(Debug, Drop)]
 pub struct Walk<'s, 'a> {
     pub facts: Facts<'s, 'a>,
     pub next: usize,
@@ -136,7 +136,7 @@ pub fn hypothesis<'a>(symbols: &[u8], rec: &'a [u8], n: usize) -> &'a [u8]
     Facts::of_record(symbols, rec).fact(n + 1)
 }
 
-// Is a predicate open?
+// Is a predicate open? The first symbol alone, whatever the table says; here the table is asked once others can be open.
 #[tactic(auto, using(crate::proofs::Laws::base_is))]
 fn open_predicate(symbols: &[u8], p: u8) -> bool
     ensures { result ≡ base_open symbols.now p }
@@ -155,12 +155,20 @@ pub fn is_open(symbols: &[u8], fact: &[u8]) -> bool
     }
 }
 
+/// The hypotheses that a record counts, one after another.
+pub fn hypotheses<'s, 'a>(symbols: &'s [u8], rec: &'a [u8]) -> Walk<'s, 'a>
+    ensures facts { (result.facts.symbols.now ≡ symbols.now) × (result.facts.tokens.now ≡ tokens_of rec.now) }
+    ensures places { (result.next ≡ 1) × (result.left ≡ get_or rec.now 0 0) }
+{
+    Facts::of_record(symbols, rec).walk(1, usize::from(byte_at(rec, 0)))
+}
+
 /// Are all hypotheses of a record open?
 #[tactic(auto, using(crate::proofs::Laws::walks))]
 pub fn all_open(symbols: &[u8], rec: &[u8]) -> bool
     ensures { result ≡ hypotheses_open symbols.now rec.now }
 {
-    for (_, fact) in Facts::of_record(symbols, rec).walk(1, usize::from(byte_at(rec, 0))) {
+    for (_, fact) in hypotheses(symbols, rec) {
         if !is_open(symbols, fact) {
             return false;
         }
@@ -168,6 +176,7 @@ pub fn all_open(symbols: &[u8], rec: &[u8]) -> bool
     true
 }
 
+// A set of variables is a plain `u32`: its ones are counted, and a gap is found by trailing zeros, by rule.
 /// A set of variables with the token t, if that is a variable from 1 to 32.
 #[tactic(auto, using(crate::proofs::Sets::bits))]
 pub fn with(set: u32, t: u8) -> u32
@@ -199,7 +208,7 @@ pub fn size(tokens: &[u8]) -> u32
     seen(tokens).count_ones()
 }
 
-/// The least variable that is not among the tokens, or 33 where all are.
+/// The least variable that is not among the tokens, or 33 where all are: a promise to callers.
 #[tactic(auto, using(crate::proofs::Sets::gaps))]
 pub fn gap(tokens: &[u8]) -> u32
     ensures { (result ≡ gap_from 32 1 tokens.now) × (result ≤ 33) }

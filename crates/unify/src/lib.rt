@@ -17,7 +17,7 @@ ghost use Rattle.unify.specs.Writer.{Writes};
 use records::FIRST_SYMBOL;
 use records::symbols::arity;
 
-/// The code of the first class without a symbol; a code below it is a symbol's token.
+/// The code of the first class without a symbol; a code below it is a symbol's token. One number for both: the lent text has numbers.
 pub const FIRST_VARIABLE: usize = 256;
 
 // The marks of nodes in a walk. They are bytes, since a narrower type would ask more of callers, who lend the table.
@@ -28,7 +28,7 @@ const OPEN: u8 = 1;
 const DONE: u8 = 2;
 
 /// Two records and the table of symbols: what the unifier reads.
-#[derive(Clone, Copy)]
+#[derive(Clone, Copy, Debug)]
 pub struct Pair<'a> {
     /// The table of symbols.
     pub symbols: &'a [u8],
@@ -42,7 +42,7 @@ pub struct Pair<'a> {
 }
 
 /// The nodes of two records in classes, as `unify` leaves them.
-#[derive(Clone, Copy)]
+#[derive(Clone, Copy, Debug)]
 pub struct Classes<'a> {
     /// The two records.
     pub pair: Pair<'a>,
@@ -107,7 +107,7 @@ impl<'a> Pair<'a> {
         if p < self.toks { v } else { v + 1 }
     }
 
-    // The place past the term at p.
+    // The place past the term at p. Not the walk of `Facts`: places go over from a into b.
     #[tactic(auto, using(crate::specs::Code::past_again, crate::specs::Pairs::tokens_long))]
     fn past(&self, p: usize) -> usize
         requires { p ≤ 2 * self.now.toks }
@@ -193,7 +193,7 @@ impl<'a> Pair<'a> {
     }
 
     /// Unifies the fact at the start of a with the one at the place `at` of b, and returns that place.
-    /// Where they unify, `rep` holds the classes of a most general unifier.
+    /// Where they unify, `rep` holds the classes of a most general unifier. The caller takes the answer apart by `let .. else`.
     pub fn unify(&self, at: usize, rep: &mut [u16], marks: &mut [u8]) -> Option<usize>
         requires rooms { (length rep.old ≡ 2 * self.now.toks + 128) × (length marks.old ≡ 2 * self.now.toks + 128) }
         requires place { at ≤ self.now.toks }
@@ -244,7 +244,7 @@ impl<'a> Iterator for Arguments<'a> {
     }
 }
 
-impl<'a> Classes<'a> {
+impl Classes<'_> {
     ghost use Rattle.unify.specs.Pairs.{tokens_of, nodes_of};
 
     // Does an open class stand inside the node i? Where not, all of i is done. The marks are written, so they go beside the classes.

@@ -8,14 +8,3 @@ returns-then-not-is_open c =
     let l = c.loop-fact in
     let f = c.in-Some in
     sym (l.invariant ∙ open_no (base_open c.args.symbols.now) l.fact-iterator c.next.new.self (f.field-0-0, f.fact) f.ensures.steps (sym c.is_open.ensures ∙ c.if-not-is_open.true))
-
-pub loop-fact-preserved : goal.loop-fact-preserved
-loop-fact-preserved c =
-    let l = c.loop-fact in
-    let f = c.in-Some in
-    l.invariant ∙ open_yes (base_open c.args.symbols.now) l.fact-iterator c.next.new.self (f.field-0-0, f.fact) f.ensures.steps (sym c.is_open.ensures ∙ c.if-not-is_open.false)
-
-pub returns : goal.returns
-returns c =
-    let l = c.loop-fact in
-    sym (l.invariant ∙ open_end (base_open c.args.symbols.now) l.fact-iterator c.next.new.self c.in-None.ensures.steps)

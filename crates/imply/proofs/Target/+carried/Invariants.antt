@@ -22,7 +22,8 @@ invariant-loop-j l =
     record {
       can_next : (goal.iterator-loop-j).can_next l.j-iterator;
       is_finite : (goal.iterator-loop-j).is_finite l.j-iterator;
-      same : w.facts ≡ l.own;
+      table : w.facts.symbols.now ≡ sy;
+      tokens : w.facts.tokens.now ≡ tokens_of q;
       here : w.next ≡ j + 1;
       many : j + w.left ≡ get_or q 0 0;
       left : carried (arity_of sy) (tokens_of l.r) (tokens_of q) (get_or q 0 0) l.k (get_or l.r 0 0 - l.k) l.used l.binds ≡ any (way sy l.r q l.k l.used l.binds) j w.left;

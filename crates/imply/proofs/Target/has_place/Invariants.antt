@@ -15,7 +15,8 @@ invariant-loop-at l =
     let sy = l.self.symbols.now in
     let q = l.self.record.now in
     record {
-      same : w.facts ≡ l.own;
+      table : w.facts.symbols.now ≡ sy;
+      tokens : w.facts.tokens.now ≡ tokens_of q;
       from : 1 ≤ w.next;
       left : has_place (arity_of sy) (tokens_of q) (get_or q 0 0) l.fact ≡ any (fits sy q l.fact) (w.next - 1) w.left;
     }

@@ -4,4 +4,4 @@ use Rattle.checker.proofs.Laws.{follows_yes}
 use Rattle.checker.proofs.steps.StepList.follows.Goals as goal
 
 pub returns-then-match_at : goal.returns-then-match_at
-returns-then-match_at c = c.uses_matched.ensures ∙ rw (c.match_at.ensures.1, c.size.ensures, c.place.ensures) (sym (follows_yes _ _ _ _ _ _ _ _ _ c.fact.ensures (search rules)))
+returns-then-match_at c = c.uses_matched.ensures ∙ rw (c.match_at.ensures.1, c.fact_at.ensures) (sym (follows_yes _ _ _ _ _ _ _ _ _ c.fact.ensures (search rules)))
