@@ -10,7 +10,7 @@ use Rattle.unify.specs.Pairs.{tokens_of, tokens_long}
 abbrev pub Steps : Arguments → Option ℕ → Arguments → Type 0
 Steps s None t = (s.left ≡ 0) × (t ≡ s)
 Steps s (Some n) t =
-    (0 < s.left) × (n ≡ node (tokens_of s.pair) s.at) × (n < 2 * s.pair.toks + 128) × Past s.pair.symbols.now (tokens_of s.pair) s.at t.at × (t.left ≡ s.left - 1) × (t.pair ≡ s.pair)
+    (0 < s.left) × (n ≡ node (tokens_of s.pair.now) s.at) × (n < 2 * s.pair.now.toks + 128) × Past s.pair.now.symbols.now (tokens_of s.pair.now) s.at t.at × (t.left ≡ s.left - 1) × (t.pair.now ≡ s.pair.now)
 
-pub stands : (s : Arguments) (p : Pair) → s.pair ≡ p → s.at ≤ length (tokens_of p)
+pub stands : (s : Arguments) (p : Pair) → s.pair.now ≡ p → s.at ≤ length (tokens_of p)
 stands s p e = omega (arith, s.inside, ap (λ (q : Pair). q.toks) e, tokens_long p)

@@ -126,12 +126,14 @@ impl<'a> Pair<'a> {
 
     // The arguments of the symbol at p.
     #[tactic(auto, using(crate::specs::Pairs::tokens_long))]
-    fn args(&self, p: usize) -> Arguments<'a>
+    fn args(&self, p: usize) -> Arguments<'_, 'a>
         requires { p < 2 * self.now.toks }
-        ensures { (result.pair ≡ self.now) × ((result.at ≡ p + 1) × (result.left ≡ arity_of self.now.symbols.now (tok (tokens_of self.now) p))) }
+        ensures pair { result.pair.now ≡ self.now }
+        ensures at { result.at ≡ p + 1 }
+        ensures left { result.left ≡ arity_of self.now.symbols.now (tok (tokens_of self.now) p) }
     {
         Arguments {
-            pair: *self,
+            pair: self,
             at: p + 1,
             left: arity(self.symbols, self.token(p)),
         }
@@ -215,14 +217,14 @@ impl<'a> Pair<'a> {
 
 // The nodes of `left` arguments, one after another, from the place `at` on.
 #[derive(Drop)]
-struct Arguments<'a> {
-    pair: Pair<'a>,
+struct Arguments<'p, 'a> {
+    pair: &'p Pair<'a>,
     at: usize,
     left: usize,
-    ghost inside: { at ≤ 2 * pair.toks },
+    ghost inside: { at ≤ 2 * pair.now.toks },
 }
 
-impl<'a> Iterator for Arguments<'a> {
+impl Iterator for Arguments<'_, '_> {
     ghost use Rattle.std.specs.Iterator.{at_most};
     ghost use Rattle.unify.specs.Steps.{Steps};
 

@@ -31,8 +31,8 @@ loop-a-init t c =
     let w = c.args-a-items.ensures in
     rw c.into_iter-a-iterator.ensures.into_iter_gives
     (record {
-      same = w.0;
-      left = rw (w.1.0, w.1.1, ← sub-zero (arity_of a.self.now.pair.symbols.now (tok (tokens_of a.self.now.pair) c.root-r.result))) (look_start A (omega (arith, c.if-self-r.false)) (ap (λ (x : ℕ). get_or a.marks.now x 0) (sym r) ∙ c.if-marks-r-ne-NEW.false) _ _ _ (ap (λ (x : ℕ). set a.marks.now x 1) r) r refl);
+      same = w.pair;
+      left = rw (w.at, w.left, ← sub-zero (arity_of a.self.now.pair.symbols.now (tok (tokens_of a.self.now.pair) c.root-r.result))) (look_start A (omega (arith, c.if-self-r.false)) (ap (λ (x : ℕ). get_or a.marks.now x 0) (sym r) ∙ c.if-marks-r-ne-NEW.false) _ _ _ (ap (λ (x : ℕ). set a.marks.now x 1) r) r refl);
     })
 
 pub look-requires : goal.look-requires

@@ -20,6 +20,6 @@ invariant-loop-a l =
     let rep = l.self.rep.now in
     let r = find rep l.i in
     record {
-      same : w.pair ≡ l.self.pair;
+      same : w.pair.now ≡ l.self.pair;
       left : Rest (nodes_of l.self.pair) rep l.initial.marks l.marks (args_at sy ts (suc r) (arity_of sy (tok ts r))) (args_at sy ts w.at w.left);
     }

@@ -47,8 +47,8 @@ loop-a-init t c =
     let w = c.args-a-items.ensures in
     rw c.into_iter-a-iterator.ensures.into_iter_gives
     (record {
-      same = w.0;
-      left = rw (w.1.0, w.1.1, ← sub-zero (arity_of sy (tok ts c.root-r.result)), c.from.ensures)
+      same = w.pair;
+      left = rw (w.at, w.left, ← sub-zero (arity_of sy (tok ts c.root-r.result)), c.from.ensures)
           (args_start A a.out.now c.root-r.result c.token.result _ c.root-r.ensures.0 (omega (arith, c.if-self-r.false)) (omega arith) c.token.ensures (ap (arity_of sy) (sym c.token.ensures)));
     })
 

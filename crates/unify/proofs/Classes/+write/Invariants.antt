@@ -19,6 +19,6 @@ invariant-loop-a l =
     let ts = tokens_of l.self.pair in
     let r = find l.self.rep.now l.i in
     record {
-      same : w.pair ≡ l.self.pair;
+      same : w.pair.now ≡ l.self.pair;
       left : Args (nodes_of l.self.pair) l.self.rep.now l.out l.len (tok ts r) (args_at sy ts (suc r) (arity_of sy (tok ts r))) (args_at sy ts w.at w.left);
     }

@@ -56,10 +56,10 @@ loop-u-init t c =
     (record {
       can_next = (tt, tt);
       is_finite = tt;
-      first = x.0;
-      second = y.0;
-      as_many = y.1.1 ∙ sym (ap (arity_of pair.symbols.now) e) ∙ sym x.1.1;
-      doing = rw (x.1.0, y.1.0, x.1.1)
+      first = x.pair;
+      second = y.pair;
+      as_many = y.left ∙ sym (ap (arity_of pair.symbols.now) e) ∙ sym x.left;
+      doing = rw (x.at, y.at, x.left)
           (subst (Doing pair.symbols.now ts _ _ _ _ _ _) (sub-zero _) (doing_start pair.symbols.now ts _ c.min-lo.result c.max-hi.result _ _ (joint_down J _ refl) refl e refl));
     })
 

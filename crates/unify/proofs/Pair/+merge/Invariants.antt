@@ -16,8 +16,8 @@ invariant-loop-u l =
     record {
       can_next : (goal.iterator-loop-u).can_next l.u-iterator;
       is_finite : (goal.iterator-loop-u).is_finite l.u-iterator;
-      first : a.pair ≡ l.self;
-      second : b.pair ≡ l.self;
+      first : a.pair.now ≡ l.self;
+      second : b.pair.now ≡ l.self;
       as_many : b.left ≡ a.left;
       doing : Doing l.self.symbols.now (tokens_of l.self) l.initial.rep l.rep l.lo l.hi a.at b.at a.left;
     }
