@@ -11,7 +11,7 @@ use Rattle.theory.specs.Basics.{no_confusion}
 use Rattle.records.specs.Symbols.{arity_of}
 use Rattle.unify.specs.Forest.{up, get_d_any}
 use Rattle.unify.specs.Closure.{Graph, Same, same_label, same_args}
-use Rattle.unify.specs.Inside.{Cyclic, cyclic_none, Read, Done, Open, Looked}
+use Rattle.unify.specs.Inside.{Cyclic, cyclic_none, Read, Looked}
 use Rattle.unify.specs.Solve.{Fresh, start_resp, solved, Solved}
 use Rattle.unify.specs.Nodes.{graph, node, tok, args_at, args_head, first, starts_at, sym_in}
 use Rattle.unify.specs.Facts.{facts, graph_of}
@@ -76,12 +76,6 @@ zero_at r n e k = ap (λ (l : List ℕ). get_or l k 0) e ∙ go (leb n k) refl
 -- ---- marks between two walks: what is marked can be read, and nothing is open
 abbrev pub Marked : Graph → List ℕ → List ℕ → Type 0
 Marked G s m = (k : ℕ) → get_or m k 0 ≢ 0 → (get_or m k 0 ≢ 1) × Read G s k
-
-pub marked_done : (G : Graph) (s m : List ℕ) → Marked G s m → Done G s m
-marked_done G s m M k a b = (M k a).1
-
-pub marked_open : (G : Graph) (s m : List ℕ) (i : ℕ) → Marked G s m → Open G s m i
-marked_open G s m i M k e = absurd ((M k (λ z. (omega arith))).0 e)
 
 pub marked_next : (G : Graph) (s m k : List ℕ) → Marked G s m → Looked G s m k → Marked G s k
 marked_next G s m k M h j a = (shut, h.done j a shut)

@@ -1,6 +1,6 @@
 use mathlib.Core.Path.{sym, ◌∙◌}
 use Rattle.terms.specs.Facts.{base_open}
-use Rattle.terms.proofs.Laws.{open_yes, open_no, open_end}
+use Rattle.terms.proofs.Laws.{open_no}
 use Rattle.terms.proofs.all_open.Goals as goal
 
 pub returns-then-not-is_open : goal.returns-then-not-is_open
