@@ -69,7 +69,7 @@ pub fn rule_good(symbols: &[u8], rec: &[u8], hyps: usize, toks: usize, vars: usi
         && zeros(rest(rec, 2 + n))
 }
 
-// The first bad one of the table's whole records.
+// The first bad one of the table's whole records. A loop, as over symbols: its clause is a recursion, which `position` leaves open.
 #[tactic(auto, using(crate::proofs::RuleSteps::records))]
 pub(crate) fn first_bad_rule(symbols: &[u8], rules: &[u8], limits: &Limits) -> Option<usize>
     ensures { result ≡ found_of (first_bad_rule symbols.now limits.now.hyps limits.now.toks limits.now.vars (length rules.now / (limits.now.toks + 8)) 0 rules.now) }

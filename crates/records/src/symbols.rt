@@ -158,7 +158,7 @@ fn symbol_good(symbols: &[u8], i: usize, rec: &[u8]) -> bool
         && name_new(symbols, i, name)
 }
 
-// A loop, here and over rules: the clause is a recursion over the records, which `position` leaves open.
+// A loop: its clause is a recursion over the records, which `position` leaves open.
 /// The first bad one of the table's whole records.
 #[tactic(auto, using(crate::proofs::SymbolSteps::steps))]
 pub fn first_bad_symbol(symbols: &[u8]) -> Option<usize>
