@@ -44,6 +44,7 @@ impl From<Refusal> for Rejected {
     }
 }
 
+// Numbers and no `Display`: they are what programs print.
 impl Rejected {
     /// 2 to 4 by the table that is refused, 10 length, 11 step, 12 end.
     pub fn number(self) -> usize
@@ -69,6 +70,7 @@ impl Rejected {
     }
 }
 
+// Functions of an answer, since `Checked` is the library's `Result`.
 /// The number of an answer, and 0 for an accepted list.
 pub fn checked_number(c: Checked) -> usize
     ensures { result ≡ checked_number c }

@@ -27,7 +27,7 @@ use unify::{Classes, FIRST_VARIABLE, Pair};
 pub struct TooLarge;
 
 // Two records with the classes of a unifier: the instance of each fact can be read off them.
-#[derive(Clone, Copy)]
+#[derive(Clone, Copy, Debug)]
 struct Instances<'a> {
     classes: Classes<'a>,
     ghost site: { Site classes.pair.symbols.now classes.pair.toks classes.pair.a.now classes.pair.b.now classes.rep.now } by { one_site classes.pair.symbols.now classes.pair.toks classes.pair.a.now classes.pair.b.now classes.rep.now },
@@ -91,6 +91,7 @@ fn name(names: &mut [u8], x: usize, set: u32, vars: usize) -> Result<u32, TooLar
     if names[x] != 0 {
         return Ok(set);
     }
+    // No `From` leads from `u32` to `usize`; here nothing is lost.
     if vars <= set.count_ones() as usize {
         return Err(TooLarge);
     }
@@ -219,7 +220,7 @@ impl Draft<'_, '_> {
 }
 
 /// Writes the combination of the rules in a and b upon the hypothesis at the place `at` of b, after `unify` found these classes.
-// Each lent sheet goes by itself: in a struct of `&mut` the contract would speak of its entry and exit.
+// Each lent sheet goes by itself: in a struct of `&mut` the contract would speak of its entry and exit. No `Limits`: `toks` is the pair's.
 /// It is too large with more than `hyps` hypotheses, `toks` tokens or `vars` variables.
 pub fn combined<'b>(
     classes: &Classes,

@@ -18,6 +18,7 @@ pub fn in_term(symbols: &[u8], vars: usize, t: u8) -> bool
     Kind::of(symbols, t).is_some_and(Kind::is_function)
 }
 
+// Symbols and tokens go apart: `Facts` stands in a crate above this one.
 /// Are the tokens exactly `facts` facts, with variables from 1 to `vars`?
 #[tactic(auto, using(crate::proofs::RuleSteps::tokens), unfolding(crate::specs::Rules::good_tokens))]
 pub fn tokens_good(symbols: &[u8], tokens: &[u8], vars: usize, facts: usize) -> bool

@@ -71,6 +71,7 @@ impl Kind {
 }
 
 /// The byte of a token's kind, as it stands in the table, and 0 for a variable.
+// A byte and no `Kind`: it is what stands there, also where it names no kind.
 #[tactic(auto, unfolding(crate::specs::Symbols::kind_of))]
 pub fn kind_byte(symbols: &[u8], t: u8) -> u8
     ensures { result ≡ kind_of symbols.now t }
@@ -82,6 +83,7 @@ pub fn kind_byte(symbols: &[u8], t: u8) -> u8
 }
 
 /// Does a byte name a function or a name?
+// Of a byte, for callers that have one; `Kind::is_function` is for a kind.
 pub fn is_function(code: u8) -> bool
     ensures { result ≡ is_function code }
 {
@@ -141,7 +143,7 @@ fn name_new(symbols: &[u8], n: usize, name: &[u8]) -> bool
     true
 }
 
-// Is symbol i good, whose record `rec` begins with?
+// Is symbol i good, whose record is `rec`?
 #[tactic(auto, unfolding(crate::specs::Symbols::symbol_good, crate::specs::Symbols::shape_good, crate::specs::Symbols::is_function, model::specs::Term::both))]
 fn symbol_good(symbols: &[u8], i: usize, rec: &[u8]) -> bool
     requires { 16 * i ≤ length symbols.now }

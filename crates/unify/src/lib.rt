@@ -65,7 +65,7 @@ fn root(rep: &[u16], i: usize) -> usize
     x
 }
 
-// Each node a class by itself.
+// Each node a class by itself. No `fill`: each place gets its own number.
 #[tactic(auto, using(crate::specs::Whole::own_none, crate::specs::Whole::own_more, crate::specs::Whole::own_fresh))]
 fn fresh(rep: &mut [u16])
     requires { length rep.old ≤ 65536 }
