@@ -1,6 +1,6 @@
 -- Laws of steps as bytes that the functions' proofs cite: what is read of a step, and a turn and the end of each loop. Assumes nothing.
 use mathlib.Core.Path.{◌≡◌, ap₂, ◌∙◌}
-use mathlib.Core.Bool.{Bool, true, false}
+use mathlib.Core.Bool.{true, false}
 use mathlib.Core.Option.{none, some}
 use mathlib.Core.List.{List}
 use Prim.Native.Nat.{ℕ, ◌+◌, ◌-◌, ◌*◌, ◌/◌, ◌≤◌, ◌<◌}
@@ -13,6 +13,7 @@ use lib.Seq.{get_or-take}
 use Rattle.records.proofs.Laws.{less}
 use Rattle.terms.specs.Facts.{fact_at}
 use Rattle.matching.specs.Match.{matched, onward, unbound}
+use Rattle.matching.proofs.Laws.{onward_no, onward_yes}
 use Rattle.checker.specs.Steps.{two}
 use Rattle.checker.specs.Follows.{uses_matched, follows_bytes, step_good, first_bad_bytes}
 
@@ -28,15 +29,6 @@ use_place u i Z p n h k l = let z : (u + 1) * Z ≤ i * Z = mul-le-mul_right Z (
 pub step_place : (i Z n : ℕ) → i < n / Z → i * Z + Z ≤ n
 step_place i Z n h = let z : (i + 1) * Z ≤ n / Z * Z = mul-le-mul_right Z (omega arith) in omega (arith, add-mul i 1 Z, div-mul-le_self n Z)
 
--- ---- on after a match, or not
-onward_no : (m : Bool × List ℕ) → m.0 ≡ false → (k : List ℕ → Bool) → onward m k ≡ false
-unfolding onward
-onward_no m e k = rw (e, onward)
-
-onward_yes : (m : Bool × List ℕ) → m.0 ≡ true → (k : List ℕ → Bool) → onward m k ≡ k m.1
-unfolding onward
-onward_yes m e k = rw (e, onward)
-
 -- ---- the hypotheses of a rule from number k of n on, under the bindings b
 module _ (ar : ℕ → ℕ) (size place : ℕ) (rt st : List ℕ) (i : ℕ) (s : List ℕ) (n k : ℕ) (b : List ℕ) where
   module _ (h : k < n) (u : ℕ) (e : u ≡ two s (4 + 2 * k)) where
@@ -50,11 +42,11 @@ module _ (ar : ℕ → ℕ) (size place : ℕ) (rt st : List ℕ) (i : ℕ) (s :
       turn = rw (less n k h, lt-ltb (two s (4 + 2 * k)) i (omega arith), uses_matched, f, e, add-one k)
 
       pub uses_no : (matched ar pat st (u * size + place) b).0 ≡ false → uses_matched ar size place rt st i s k (n - k) b ≡ false
-      uses_no m = turn ∙ onward_no _ m _
+      uses_no m = turn ∙ onward_no _ _ m
 
       pub uses_yes : (matched ar pat st (u * size + place) b).0 ≡ true
           → uses_matched ar size place rt st i s k (n - k) b ≡ uses_matched ar size place rt st i s (k + 1) (n - (k + 1)) (matched ar pat st (u * size + place) b).1
-      uses_yes m = turn ∙ onward_yes _ m _
+      uses_yes m = turn ∙ onward_yes _ _ m
 
   pub uses_end : n ≤ k → uses_matched ar size place rt st i s k (n - k) b ≡ true
   unfolding uses_matched
@@ -69,11 +61,11 @@ module _ (ar : ℕ → ℕ) (size place : ℕ) (rt st : List ℕ) (i at : ℕ) (
   start = rw f
 
   pub follows_no : (matched ar pat st (at + place) unbound).0 ≡ false → follows_bytes ar size place rt st i at s ≡ false
-  follows_no m = start ∙ onward_no _ m _
+  follows_no m = start ∙ onward_no _ _ m
 
   pub follows_yes : (matched ar pat st (at + place) unbound).0 ≡ true
       → follows_bytes ar size place rt st i at s ≡ uses_matched ar size place rt st i s 0 (get_or s 2 0) (matched ar pat st (at + place) unbound).1
-  follows_yes m = start ∙ onward_yes _ m _
+  follows_yes m = start ∙ onward_yes _ _ m
 
 pub ruleset follow = (follows_no, follows_yes)
 

@@ -19,6 +19,7 @@ use Rattle.records.specs.Rules.{tokens_of}
 use Rattle.records.proofs.Laws.{less}
 use Rattle.terms.specs.Facts.{fact_at, hypothesis_of}
 use Rattle.matching.specs.Match.{matched, onward, unbound}
+use Rattle.matching.proofs.Laws.{onward_no, onward_yes}
 use Rattle.imply.specs.Imply.{free, used_by, any, into, carried, implies_bytes, first_bytes}
 use Rattle.imply.specs.ImplyLaws.{used_here, used_other}
 use Rattle.imply.specs.Filter.{may_match, has_place, may_imply}
@@ -93,14 +94,6 @@ none_any f j (suc k) e i g l = go (f j) refl e (λ q. none_any f (suc j) k q i)
 onward_none : (x : Bool × List ℕ) (k : List ℕ → Bool) → ((b : List ℕ) → k b ≡ false) → onward x k ≡ false
 unfolding onward
 onward_none x k h = elim x.0 as (λ c. elim c [ true ↦ k x.1 | false ↦ false ] ≡ false) [ true ↦ h x.1 | false ↦ refl ]
-
-onward_no : (x : Bool × List ℕ) (k : List ℕ → Bool) → x.0 ≡ false → onward x k ≡ false
-unfolding onward
-onward_no x k e = rw e
-
-onward_yes : (x : Bool × List ℕ) (k : List ℕ → Bool) → x.0 ≡ true → onward x k ≡ k x.1
-unfolding onward
-onward_yes x k e = rw e
 
 -- ---- the symbols that a pattern begins with
 -- Where they do not stand at a place, the pattern does not match there.

@@ -12,7 +12,7 @@ use lib.Pointwise.{pointwise}
 use Rattle.std.proofs.lemmas.List.{drop_more}
 use Rattle.records.proofs.Laws.{same_bytes_is}
 use Rattle.records.specs.Tokens.{span}
-use Rattle.matching.specs.Match.{agree, matched}
+use Rattle.matching.specs.Match.{agree, matched, onward}
 
 pub agree_is : (text : List ℕ) (n s p : ℕ) → pointwise eqb (take n (drop s text)) (take n (drop p text)) ≡ agree text n s p
 unfolding agree
@@ -65,3 +65,12 @@ unfolding matched
 matched_end ar pat text i p b h = rw (drop_of_length-le pat h)
 
 pub ruleset turns = (symbol_inside, symbol_no, symbol_yes, free_binds, bound_no, bound_yes, matched_end, length-set)
+
+-- ---- on with a match
+pub onward_no : (x : Bool × List ℕ) (k : List ℕ → Bool) → x.0 ≡ false → onward x k ≡ false
+unfolding onward
+onward_no x k e = rw e
+
+pub onward_yes : (x : Bool × List ℕ) (k : List ℕ → Bool) → x.0 ≡ true → onward x k ≡ k x.1
+unfolding onward
+onward_yes x k e = rw e

@@ -14,7 +14,8 @@ use Rattle.records.specs.Symbols.{kind_of, arity_of}
 use Rattle.records.specs.Rules.{in_term, good_tokens, tokens_of, decode_rule}
 use Rattle.terms.specs.Facts.{base_open, hypotheses_open}
 use Rattle.terms.specs.Vars.{held, held_of, all_held}
-use Rattle.terms.proofs.Sets.{both_yes, held_yes}
+use Rattle.theory.specs.Basics.{both_true}
+use Rattle.terms.proofs.Sets.{held_yes}
 use Rattle.terms.specs.OpenLaws.{hyps_drop, hypotheses_open_lem}
 use Rattle.terms.proofs.Decoded.{size_rule}
 use Rattle.terms.proofs.Same.{kind_symbol}
@@ -61,7 +62,7 @@ module _ (sy : List ℕ) (v : ℕ) where
   inner_held : v ≤ 32 → (t : ℕ) → in_term sy v t ≡ true → ltb t 64 ≡ true → held t ≡ true
   unfolding in_term
   inner_held l t k e =
-      let p = both_yes (leb 1 t) (leb t v) (rw (e, in_term) at k) in
+      let p = both_true (leb 1 t) (leb t v) (rw (e, in_term) at k) in
       held_yes t (leb-true 1 t p.0) (omega (arith, leb-true t v p.1))
 
   pub good_held : v ≤ 32 → (m n : ℕ) (ts : List ℕ) → good_tokens sy v m n ts ≡ true → all_held ts ≡ true

@@ -11,6 +11,7 @@ use lib.Bits.{bit_or, or_lt}
 use lib.Pow.{pow-lt}
 use lib.Count.{ones, count_trailing_zeros, trailing_le}
 use lib.ListN.{length}
+use Rattle.theory.specs.Basics.{both_true}
 use Rattle.model.specs.Term.{both, elem, distinct}
 use Rattle.terms.specs.Vars.{variables, held, held_of, all_held, with_var, with_vars, gap_from}
 use Rattle.terms.proofs.Digits.{digit, digit_same, digit_other, digit_zero, digit_not, ones_set, trailing_below, trailing_here}
@@ -33,14 +34,9 @@ pub held_high : (t : ℕ) → 32 < t → held t ≡ false
 unfolding held both
 held_high t b = let a : 1 ≤ t = omega arith in rw (le-leb _ _ a, lt-leb _ _ b)
 
-pub both_yes : (a b : Bool) → both a b ≡ true → (a ≡ true) × (b ≡ true)
-unfolding both
-both_yes true b h = (refl, h)
-both_yes false b h = let z : true ≡ false = sym h in (h, cc)
-
 held_range : (t : ℕ) → held t ≡ true → (1 ≤ t) × (t ≤ 32)
 unfolding held
-held_range t h = let p = both_yes (leb 1 t) (leb t 32) h in (leb-true 1 t p.0, leb-true t 32 p.1)
+held_range t h = let p = both_true (leb 1 t) (leb t 32) h in (leb-true 1 t p.0, leb-true t 32 p.1)
 
 -- ---- one token more
 with_held : (m t : ℕ) → held t ≡ true → with_var m t ≡ bit_or m (2 ^ (t - 1))
@@ -156,7 +152,7 @@ held_variables (t ∷ l) h = go (held_variables l) (ltb t 64) refl
   where
     go : (all_held l ≡ true → held_of l ≡ variables l) → (b : Bool) → ltb t 64 ≡ b → held_of (t ∷ l) ≡ variables (t ∷ l)
     go ih true e =
-        let p = both_yes (held t) (all_held l) (rw (e, all_held) at h) in
+        let p = both_true (held t) (all_held l) (rw (e, all_held) at h) in
         rw (held_cons t l p.0, e, variables) (ap (λ (x : List ℕ). t ∷ x) (ih p.1))
     go ih false e =
         let k = ltb-false t 64 e in
