@@ -19,28 +19,15 @@ use Rattle.theory.specs.Mend.{wants_left, wants_right, fact_wants_left, fact_wan
 use Rattle.records.specs.Tokens.{leaves, terms, span}
 use Rattle.records.specs.Symbols.{same_bytes}
 use Rattle.records.specs.TokenLaws.{Agrees, EachVar, Small, take_leaves, drop_leaves, leaves_front, terms_term, span_term}
+use Rattle.terms.proofs.Same.{bytes_equal, bytes_same}
 use Rattle.matching.specs.Match.{agree, matched}
 
--- ---- lists of bytes
+-- ---- lists of bytes, by the laws of `terms`
 pub same_bytes_refl : (l : List ℕ) → same_bytes l l ≡ true
-unfolding same_bytes
-same_bytes_refl [] = refl
-same_bytes_refl (b ∷ l) = go (eqb b b) (eq-eqb b b refl) (same_bytes_refl l)
-  where
-    go : (c : Bool) → c ≡ true → same_bytes l l ≡ true → elim c [ true ↦ same_bytes l l | false ↦ false ] ≡ true
-    go true e rec = rec
-    go false e rec = true≢false e refl
+same_bytes_refl = bytes_same
 
 pub same_bytes_eq : (l m : List ℕ) → same_bytes l m ≡ true → l ≡ m
-unfolding same_bytes
-same_bytes_eq [] [] e = refl
-same_bytes_eq [] (c ∷ m) e = true≢false e refl
-same_bytes_eq (b ∷ l) [] e = true≢false e refl
-same_bytes_eq (b ∷ l) (c ∷ m) e = go (eqb b c) refl e (same_bytes_eq l m)
-  where
-    go : (d : Bool) → eqb b c ≡ d → elim d as (λ _. Bool) [ true ↦ same_bytes l m | false ↦ false ] ≡ true → (same_bytes l m ≡ true → l ≡ m) → b ∷ l ≡ c ∷ m
-    go true p q rec = ap₂ ◌∷◌ (eqb-true b c p) (rec q)
-    go false p q rec = true≢false q refl
+same_bytes_eq = bytes_equal
 
 module _ (ar : ℕ → ℕ) (S : Signature) (agrees : Agrees ar S) where
   -- ---- the shape of a term
