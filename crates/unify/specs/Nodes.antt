@@ -41,7 +41,7 @@ map_drop f zero l = refl
 map_drop f (suc n) [] = refl
 map_drop f (suc n) (x ∷ l) = map_drop f n l
 
-head_or : {A : Type 0} → A → List A → A
+unfoldable pub head_or : {A : Type 0} → A → List A → A
 head_or d [] = d
 head_or d (x ∷ l) = x
 
@@ -78,7 +78,7 @@ map_ext : {A B : Type 0} (f g : A → B) → ((x : A) → f x ≡ g x) → (l : 
 map_ext f g h [] = refl
 map_ext f g h (x ∷ l) = ap₂ ◌∷◌ (h x) (map_ext f g h l)
 
-every_drop : (P : ℕ → Type 0) (n : ℕ) (l : List ℕ) → Every P l → Every P (drop n l)
+pub every_drop : (P : ℕ → Type 0) (n : ℕ) (l : List ℕ) → Every P l → Every P (drop n l)
 every_drop P zero l h = h
 every_drop P (suc n) [] h = tt
 every_drop P (suc n) (x ∷ l) h = every_drop P n l h.1
@@ -191,7 +191,7 @@ module _ (sy ts : List ℕ) where
       go true e false = let z = ltb-true (tok ts q) 64 e in omega arith
       go false e c = omega arith
 
-  starts_in : (u : List ℕ) (k n : ℕ) → k + length u ≤ n → Every (λ q. q ≤ n) (starts sy k u)
+  pub starts_in : (u : List ℕ) (k n : ℕ) → k + length u ≤ n → Every (λ q. q ≤ n) (starts sy k u)
   unfolding starts
   starts_in [] k n l = tt
   starts_in (t ∷ u) k n l = (omega arith, every_drop (λ q. q ≤ n) (arity_of sy t) (starts sy (suc k) u) (starts_in u (suc k) n (omega arith)))

@@ -78,6 +78,7 @@ fn fresh(rep: &mut [u16])
 
 impl<'a> Pair<'a> {
     ghost use Rattle.unify.specs.Pairs.{tokens_of, nodes_of};
+    ghost use Rattle.unify.specs.Steps.{here};
 
     /// The token at a place: those of a come first, then those of b; 0 past the end.
     #[tactic(auto, using(crate::specs::Facts::fact_left, crate::specs::Facts::fact_right, crate::specs::Facts::fact_past))]
@@ -125,16 +126,17 @@ impl<'a> Pair<'a> {
     }
 
     // The arguments of the symbol at p.
-    #[tactic(auto, using(crate::specs::Pairs::tokens_long))]
+    #[tactic(auto, using(crate::specs::Pairs::tokens_long), unfolding(crate::specs::Steps::standing))]
     fn args(&self, p: usize) -> Arguments<'_, 'a>
         requires { p < 2 * self.now.toks }
         ensures pair { result.pair.now ≡ self.now }
-        ensures at { result.at ≡ p + 1 }
+        ensures at { here self.now result ≡ p + 1 }
         ensures left { result.left ≡ arity_of self.now.symbols.now (tok (tokens_of self.now) p) }
     {
         Arguments {
             pair: self,
             at: p + 1,
+            past: false,
             left: arity(self.symbols, self.token(p)),
         }
     }
@@ -215,13 +217,32 @@ impl<'a> Pair<'a> {
     }
 }
 
-// The nodes of `left` arguments, one after another, from the place `at` on.
+// The nodes of `left` arguments, one after another. The next one stands at the place `at`, or past the term there once that is given:
+// a term is gone past when the one behind it is asked for, so that a walk that breaks off has not gone past the last.
 #[derive(Drop)]
 struct Arguments<'p, 'a> {
     pair: &'p Pair<'a>,
     at: usize,
+    past: bool,
     left: usize,
     ghost inside: { at ≤ 2 * pair.now.toks },
+}
+
+impl Arguments<'_, '_> {
+    ghost use Rattle.unify.specs.Steps.{here};
+
+    // Where the next argument stands.
+    #[tactic(auto, using(crate::specs::Pairs::tokens_long, crate::specs::Steps::past_is), unfolding(crate::specs::Steps::standing))]
+    fn place(&self) -> usize
+        ensures value { result ≡ here self.now.pair.now self.now }
+        ensures inside { result ≤ 2 * self.now.pair.now.toks }
+    {
+        if self.past {
+            self.pair.past(self.at)
+        } else {
+            self.at
+        }
+    }
 }
 
 impl Iterator for Arguments<'_, '_> {
@@ -234,13 +255,14 @@ impl Iterator for Arguments<'_, '_> {
 
     ghost remaining = { λ s. at_most s.left };
 
-    #[tactic(auto, using(crate::specs::Pairs::tokens_long))]
+    #[tactic(auto, using(crate::specs::Pairs::tokens_long, crate::specs::Steps::past_beyond), unfolding(crate::specs::Steps::standing))]
     fn next(&mut self) -> Option<usize> {
         if self.left == 0 {
             return None;
         }
-        let at = self.at;
-        self.at = self.pair.past(at);
+        let at = self.place();
+        self.at = at;
+        self.past = true;
         self.left -= 1;
         Some(self.pair.node_at(at))
     }

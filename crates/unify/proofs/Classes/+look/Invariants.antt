@@ -7,6 +7,7 @@ use Rattle.unify.specs.Inside.{zeros}
 use Rattle.unify.specs.Nodes.{tok, args_at}
 use Rattle.unify.specs.Look.{Rest}
 use Rattle.unify.specs.Pairs.{tokens_of, nodes_of}
+use Rattle.unify.specs.Steps.{here}
 use Rattle.unify.proofs.Classes.+look.Given as goal
 
 abbrev pub decreases-look : goal.decreases-look
@@ -21,5 +22,5 @@ invariant-loop-a l =
     let r = find rep l.i in
     record {
       same : w.pair.now ≡ l.self.pair;
-      left : Rest (nodes_of l.self.pair) rep l.initial.marks l.marks (args_at sy ts (suc r) (arity_of sy (tok ts r))) (args_at sy ts w.at w.left);
+      left : Rest (nodes_of l.self.pair) rep l.initial.marks l.marks (args_at sy ts (suc r) (arity_of sy (tok ts r))) (args_at sy ts (here l.self.pair w) w.left);
     }

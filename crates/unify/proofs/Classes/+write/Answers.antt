@@ -11,7 +11,7 @@ use Rattle.std.proofs.lemmas.Bool.{eqb-false}
 use Rattle.records.specs.Symbols.{arity_of}
 use Rattle.unify.specs.Nodes.{tok}
 use Rattle.unify.specs.Writer.{args_some, places_room, write_full, write_var, args_start, places_read, places_next, places_short, places_end}
-use Rattle.unify.specs.Steps.{stands}
+use Rattle.unify.specs.Steps.{here, stands}
 use Rattle.unify.specs.Pairs.{tokens_of, nodes_of, asked}
 use Rattle.unify.proofs.Classes.+write.Goals as goal
 
@@ -60,7 +60,7 @@ write-requires t c =
     let s = c.in-Some.ensures.steps in
     let d : length c.args.out.now ≡ t = c.decreases in
     let x : length (mid_of c.loop-a.len (length c.loop-a.out - c.loop-a.len) c.loop-a.out) < t = omega (arith, d, rest_long c.loop-a.len c.loop-a.out I.left.inn, args_some I.left, I.left.inn, c.loop-a.auto.out, length-set c.args.out.now 0 c.from.result) in
-    (x, (rw I.same at s.2, places_read pair.symbols.now (tokens_of pair) w.at w.left 0 s.0 (stands w pair I.same) (rw I.same at s.1) (rw (← sub-zero w.left) at I.left)))
+    (x, (rw I.same at s.2, places_read pair.symbols.now (tokens_of pair) (here pair w) w.left 0 s.0 (stands w pair I.same) (rw I.same at s.1) (rw (← sub-zero w.left) at I.left)))
 
 pub returns-in_err-len : goal.returns-in_err-len
 returns-in_err-len t c =
@@ -72,7 +72,7 @@ returns-in_err-len t c =
     let A = asked a.self.now a.i c.requires.node c.requires.read in
     let v = c.write.auto.out ∙ rest_long c.loop-a.len c.loop-a.out I.left.inn in
     rw c.from_residual.ensures
-    (places_short A (omega (arith, c.if-self-r.false, c.root-r.ensures.0)) w.at w.left 0 (rw (← sub-zero w.left) at I.left) _ c.write.new.out _ s.0 (stands w pair I.same) (rw I.same at s.1) (put_long c.loop-a.len c.loop-a.out I.left.inn c.write.new.out v) v c.in_err-len.ensures)
+    (places_short A (omega (arith, c.if-self-r.false, c.root-r.ensures.0)) (here pair w) w.left 0 (rw (← sub-zero w.left) at I.left) _ c.write.new.out _ s.0 (stands w pair I.same) (rw I.same at s.1) (put_long c.loop-a.len c.loop-a.out I.left.inn c.write.new.out v) v c.in_err-len.ensures)
 
 pub overflow_add-len : goal.overflow_add-len
 overflow_add-len t c =
@@ -81,7 +81,7 @@ overflow_add-len t c =
     let I = c.loop-a.invariant in
     let s = c.in-Some.ensures.steps in
     let v = c.write.auto.out ∙ rest_long c.loop-a.len c.loop-a.out I.left.inn in
-    omega (arith, places_room pair.symbols.now (tokens_of pair) w.at w.left 0 s.0 (stands w pair I.same) (rw I.same at s.1) (rw (← sub-zero w.left) at I.left) c.write.new.out _ v c.in_ok-len.ensures, c.loop-a.auto.out, length-set c.args.out.now 0 c.from.result)
+    omega (arith, places_room pair.symbols.now (tokens_of pair) (here pair w) w.left 0 s.0 (stands w pair I.same) (rw I.same at s.1) (rw (← sub-zero w.left) at I.left) c.write.new.out _ v c.in_ok-len.ensures, c.loop-a.auto.out, length-set c.args.out.now 0 c.from.result)
 
 pub loop-a-preserved : goal.loop-a-preserved
 loop-a-preserved t c =
@@ -93,11 +93,12 @@ loop-a-preserved t c =
     record {
       same = s.5 ∙ I.same;
       left = rw (rest_put c.loop-a.len c.loop-a.out I.left.inn c.write.new.out, s.4)
-          (places_next pair.symbols.now (tokens_of pair) w.at w.left 0 s.0 (stands w pair I.same) (rw I.same at s.1) (rw (← sub-zero w.left) at I.left) c.write.new.out _ _ v (rw I.same at s.3) c.in_ok-len.ensures);
+          (places_next pair.symbols.now (tokens_of pair) (here pair w) w.left 0 s.0 (stands w pair I.same) (rw I.same at s.1) (rw (← sub-zero w.left) at I.left) c.write.new.out _ _ v (rw I.same at s.3) c.in_ok-len.ensures);
     }
 
 pub returns : goal.returns
 returns t c =
     let a = c.args in
+    let pair = a.self.now.pair in
     let w = c.loop-a.a-iterator in
-    places_end (asked a.self.now a.i c.requires.node c.requires.read) (omega (arith, c.if-self-r.false, c.root-r.ensures.0)) w.at w.left 0 (rw (← sub-zero w.left) at c.loop-a.invariant.left) (omega (arith, c.in-None.ensures.steps.0))
+    places_end (asked a.self.now a.i c.requires.node c.requires.read) (omega (arith, c.if-self-r.false, c.root-r.ensures.0)) (here pair w) w.left 0 (rw (← sub-zero w.left) at c.loop-a.invariant.left) (omega (arith, c.in-None.ensures.steps.0))

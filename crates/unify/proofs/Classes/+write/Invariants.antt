@@ -7,6 +7,7 @@ use Rattle.unify.specs.Forest.{find}
 use Rattle.unify.specs.Nodes.{tok, args_at}
 use Rattle.unify.specs.Writer.{Args}
 use Rattle.unify.specs.Pairs.{tokens_of, nodes_of}
+use Rattle.unify.specs.Steps.{here}
 use Rattle.unify.proofs.Classes.+write.Given as goal
 
 abbrev pub decreases-write : goal.decreases-write
@@ -20,5 +21,5 @@ invariant-loop-a l =
     let r = find l.self.rep.now l.i in
     record {
       same : w.pair.now ≡ l.self.pair;
-      left : Args (nodes_of l.self.pair) l.self.rep.now l.out l.len (tok ts r) (args_at sy ts (suc r) (arity_of sy (tok ts r))) (args_at sy ts w.at w.left);
+      left : Args (nodes_of l.self.pair) l.self.rep.now l.out l.len (tok ts r) (args_at sy ts (suc r) (arity_of sy (tok ts r))) (args_at sy ts (here l.self.pair w) w.left);
     }

@@ -10,7 +10,7 @@ use Rattle.records.specs.Symbols.{arity_of}
 use Rattle.unify.specs.declared.Pair.{Pair}
 use Rattle.unify.specs.Forest.{find, Down}
 use Rattle.unify.specs.Code.{answer_same, Joint, Doing, joint_down, joint_roots, joint_var, joint_clash, joint_true, joint_false, doing_start, doing_next, doing_clash, doing_done}
-use Rattle.unify.specs.Steps.{stands}
+use Rattle.unify.specs.Steps.{here, stands}
 use Rattle.unify.specs.Pairs.{tokens_of, nodes_of, tokens_long}
 use Prim.Native.Nat.{ℕ}
 use Rattle.unify.proofs.Pair.+merge.Goals as goal
@@ -85,7 +85,7 @@ returns-then-not-merge t c =
     let I = c.loop-u.invariant in
     let s = c.in-Some.ensures.steps in
     joint_false J _ a.rep.now refl (omega (arith, c.if-self-hi.false))
-    (doing_clash pair.symbols.now (tokens_of pair) _ _ a.rep.now _ _ x.at y.at x.left 0 _ _ s.0.0 (stands x pair I.first) (stands y pair I.second) (rw I.first at s.0.1) (rw I.second at s.1.1) (rw (← sub-zero x.left) at I.doing) c.if-not-merge.ensures)
+    (doing_clash pair.symbols.now (tokens_of pair) _ _ a.rep.now _ _ (here pair x) (here pair y) x.left 0 _ _ s.0.0 (stands x pair I.first) (stands y pair I.second) (rw I.first at s.0.1) (rw I.second at s.1.1) (rw (← sub-zero x.left) at I.doing) c.if-not-merge.ensures)
 
 pub loop-u-preserved : goal.loop-u-preserved
 loop-u-preserved t c =
@@ -100,7 +100,7 @@ loop-u-preserved t c =
       first = s.0.5 ∙ I.first;
       second = s.1.5 ∙ I.second;
       as_many = omega (arith, s.0.4, s.1.4, I.as_many);
-      doing = rw s.0.4 (doing_next pair.symbols.now (tokens_of pair) _ _ _ _ _ x.at y.at _ _ x.left 0 _ _ s.0.0 (stands x pair I.first) (stands y pair I.second) (rw I.first at s.0.3) (rw I.second at s.1.3) (rw I.first at s.0.1) (rw I.second at s.1.1) (rw (← sub-zero x.left) at I.doing) c.if-not-merge.ensures);
+      doing = rw s.0.4 (doing_next pair.symbols.now (tokens_of pair) _ _ _ _ _ (here pair x) (here pair y) _ _ x.left 0 _ _ s.0.0 (stands x pair I.first) (stands y pair I.second) (rw I.first at s.0.3) (rw I.second at s.1.3) (rw I.first at s.0.1) (rw I.second at s.1.1) (rw (← sub-zero x.left) at I.doing) c.if-not-merge.ensures);
     }
 
 pub returns : goal.returns
@@ -113,4 +113,4 @@ returns t c =
     let I = c.loop-u.invariant in
     let none : x.left ≡ 0 = elim c.in-None.ensures.steps [ inl e ↦ e.1.0 | inr e ↦ sym I.as_many ∙ e.1.0 ] in
     joint_true J _ _ refl (omega (arith, c.if-self-hi.false)) (sym c.token.ensures ∙ c.if-token.false ∙ c.token-2.ensures)
-    (doing_done pair.symbols.now (tokens_of pair) _ _ _ _ x.at y.at x.left 0 (omega (arith, none)) (rw (← sub-zero x.left) at I.doing))
+    (doing_done pair.symbols.now (tokens_of pair) _ _ _ _ (here pair x) (here pair y) x.left 0 (omega (arith, none)) (rw (← sub-zero x.left) at I.doing))

@@ -4,6 +4,7 @@ use Rattle.std.specs.Iterator.Adapters.{zip_first, zip_second}
 use Rattle.unify.specs.Forest.{roots}
 use Rattle.unify.specs.Pairs.{tokens_of}
 use Rattle.unify.specs.Code.{Doing}
+use Rattle.unify.specs.Steps.{here}
 use Rattle.unify.proofs.Pair.+merge.Given as goal
 
 abbrev pub decreases-merge : goal.decreases-merge
@@ -19,5 +20,5 @@ invariant-loop-u l =
       first : a.pair.now ≡ l.self;
       second : b.pair.now ≡ l.self;
       as_many : b.left ≡ a.left;
-      doing : Doing l.self.symbols.now (tokens_of l.self) l.initial.rep l.rep l.lo l.hi a.at b.at a.left;
+      doing : Doing l.self.symbols.now (tokens_of l.self) l.initial.rep l.rep l.lo l.hi (here l.self a) (here l.self b) a.left;
     }
