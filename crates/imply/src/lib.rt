@@ -130,16 +130,18 @@ impl Target<'_> {
         self.may_be_implied_by(r) && self.carries(r)
     }
 
-    // May a fact match one of the hypotheses?
-    #[tactic(auto, using(crate::proofs::Laws::places), unfolding(crate::proofs::Laws::fits))]
+    // May a fact match one of the hypotheses? Not by the walk: it goes past a fact before it gives it, and here the first ones mostly do.
+    #[tactic(auto, using(crate::proofs::Laws::places, terms::proofs::Laws::span_next), unfolding(crate::proofs::Laws::fits))]
     fn has_place(&self, fact: &[u8]) -> bool
         ensures { result ≡ has_place (arity_of self.now.symbols.now) (tokens_of self.now.record.now) (get_or self.now.record.now 0 0) fact.now }
     {
-        let text = tokens(self.record);
-        for (at, _) in terms::hypotheses(self.symbols, self.record) {
-            if may_match(fact, text, at) {
+        let facts = Facts::of_record(self.symbols, self.record);
+        let mut at = facts.start(1);
+        for j in 0..usize::from(hypotheses(self.record)) {
+            if may_match(fact, facts.tokens, at) {
                 return true;
             }
+            at += facts.span(at, 1);
         }
         false
     }

@@ -1,22 +1,21 @@
--- `imply::Target::has_place` meets its contract. The invariant: the answer is whether a hypothesis will do from the one on where the walk stands. Assumes nothing.
+-- `imply::Target::has_place` meets its contract. The invariant: hypothesis j stands at this place, and the answer is whether one will do from it on. Assumes nothing.
 use mathlib.Core.Path.{◌≡◌}
-use Prim.Native.Nat.{◌-◌, ◌≤◌}
-use lib.ListN.{get_or}
+use Prim.Native.Nat.{◌+◌, ◌-◌, ◌≤◌}
+use lib.ListN.{length, get_or}
 use Rattle.records.specs.Symbols.{arity_of}
 use Rattle.records.specs.Rules.{tokens_of}
+use Rattle.records.specs.Tokens.{span}
 use Rattle.imply.specs.Imply.{any}
 use Rattle.imply.specs.Filter.{has_place}
 use Rattle.imply.proofs.Laws.{fits}
 use Rattle.imply.proofs.Target.has_place.Given as goal
 
-abbrev pub invariant-loop-at : goal.invariant-loop-at
-invariant-loop-at l =
-    let w = l.at-iterator in
+abbrev pub invariant-loop-j : goal.invariant-loop-j
+invariant-loop-j l =
     let sy = l.self.symbols.now in
     let q = l.self.record.now in
     record {
-      table : w.facts.symbols.now ≡ sy;
-      tokens : w.facts.tokens.now ≡ tokens_of q;
-      from : 1 ≤ w.next;
-      left : has_place (arity_of sy) (tokens_of q) (get_or q 0 0) l.fact ≡ any (fits sy q l.fact) (w.next - 1) w.left;
+      inside : l.at ≤ length (tokens_of q);
+      here : l.at ≡ span (arity_of sy) (l.j + 1) (tokens_of q);
+      left : has_place (arity_of sy) (tokens_of q) (get_or q 0 0) l.fact ≡ any (fits sy q l.fact) l.j (get_or q 0 0 - l.j);
     }
