@@ -178,6 +178,18 @@ pub fn fill<'a, R: Read>(input: &mut R, buf: &'a mut [u8], n: usize) -> Result<&
     Ok(&buf[..n])
 }
 
+// Reads a head, its kind by a read of its own: where the input comes in packets, each read takes one. How many bytes came?
+fn read_parts<R: Read>(input: &mut R, head: &mut [u8; HEAD]) -> io::Result<usize>
+    ensures within { IfOk result (λ n. n ≤ HEAD) }
+    ensures bytes { IfOk result (λ n. Consumes (R.remaining input.old) (R.remaining input.new) (take n head.new)) }
+    ensures end { IfOk result (λ n. n < HEAD → IsAtEnd (R.remaining input.new)) }
+{
+    if read_full(input, &mut head[..1])? == 0 {
+        return Ok(0);
+    }
+    Ok(1 + read_full(input, &mut head[1..])?)
+}
+
 /// Reads the head of the next case. There is none where the input ends before its first byte.
 pub fn read_head<R: Read>(input: &mut R) -> Result<Option<Case>, CaseError>
     ensures case { IfOk result (λ o. IfSome o (λ c. TakesHead (R.remaining input.old) (R.remaining input.new) (Some c))) }
@@ -185,7 +197,7 @@ pub fn read_head<R: Read>(input: &mut R) -> Result<Option<Case>, CaseError>
     ensures bad { IsErrOf result Bad → TakesHead (R.remaining input.old) (R.remaining input.new) None ⊎ EndsWithin (R.remaining input.old) (R.remaining input.new) 1 HEAD }
 {
     let mut head = [0u8; HEAD];
-    match read_full(input, &mut head)? {
+    match read_parts(input, &mut head)? {
         0 => Ok(None),
         HEAD => head_of(&head).map(Some).ok_or(CaseError::Bad),
         _ => Err(CaseError::Bad),
