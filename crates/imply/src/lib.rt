@@ -72,7 +72,7 @@ pub struct Target<'a> {
 
 impl Target<'_> {
     // Do the hypotheses of r from hypothesis k on go one to one into those that are not used, under the bindings?
-    #[tactic(auto, using(crate::proofs::Laws::ways))]
+    #[tactic(auto, using(crate::proofs::Laws::ways, terms::proofs::Laws::span_next))]
     fn carried(&self, r: &[u8], k: usize, used: u32, binds: [u16; VARIABLES]) -> bool
         ensures { result ≡ carried_by (arity_of self.now.symbols.now) (tokens_of r.now) (tokens_of self.now.record.now) (get_or self.now.record.now 0 0) k (get_or r.now 0 0 - k) used binds }
     {
@@ -81,18 +81,19 @@ impl Target<'_> {
             return true;
         }
         let hyp = terms::hypothesis(symbols, r, k);
-        let text = Facts::of_record(symbols, record).tokens;
-        for (j, (at, _)) in terms::hypotheses(symbols, record).enumerate() {
-            let j = j as u32; // a set has at most 32 members, as is proved
-            if !is_free(used, j) || !may_match(hyp, text, at) {
-                continue;
+        let facts = Facts::of_record(symbols, record);
+        let mut at = facts.start(1);
+        for j in 0..hypotheses(record) {
+            let j = u32::from(j);
+            if is_free(used, j) && may_match(hyp, facts.tokens, at) {
+                let mut mine = binds;
+                if matching::match_at(symbols, hyp, facts.tokens, at, &mut mine)
+                    && self.carried(r, k + 1, mark(used, j), mine)
+                {
+                    return true;
+                }
             }
-            let mut mine = binds;
-            if matching::match_at(symbols, hyp, text, at, &mut mine)
-                && self.carried(r, k + 1, mark(used, j), mine)
-            {
-                return true;
-            }
+            at += facts.span(at, 1);
         }
         false
     }
