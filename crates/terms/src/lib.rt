@@ -47,13 +47,16 @@ impl<'s, 'a> Facts<'s, 'a> {
         ensures value { result ≡ span_of (arity_of self.now.symbols.now) n (drop from self.now.tokens.now) }
         ensures inside { from + result ≤ length self.now.tokens.now }
     {
+        if n == 0 {
+            return 0;
+        }
         let mut need = n;
-        // By places and not by the tokens' iterator: this loop is the heart of every walk, and so it takes a jump less at each token.
+        // By places and with the test last: this loop is the heart of every walk, and so it takes a jump less at each token.
         for at in from..self.tokens.len() {
-            if need == 0 {
-                return at - from;
-            }
             need = need - 1 + arity(self.symbols, self.tokens[at]);
+            if need == 0 {
+                return at + 1 - from;
+            }
         }
         self.tokens.len() - from
     }
