@@ -10,11 +10,12 @@ use borrow.Author.Tests.{leb-true, eqb-true}
 use lib.ListN.{length, take, drop}
 use Rattle.std.specs.Prelude.{Ok, Err, Some, None}
 use Rattle.model.specs.Check.{ends}
-use Rattle.theory.specs.Basics.{both_true, no_confusion}
+use Rattle.theory.specs.Basics.{both_true}
 use Rattle.records.specs.Symbols.{same_bytes}
 use Rattle.records.specs.Rules.{tokens_of, decode_rules, decode_query}
 use Rattle.records.specs.Found.{found_of}
 use Rattle.records.specs.RuleLaws.{Accepted as AcceptedInput, accepted}
+use Rattle.records.proofs.InputCases.{found_at, found_nothing}
 use Rattle.checker.specs.declared.Rejected.TheVariants.{Length, Step as BadStep, End}
 use Rattle.checker.specs.Steps.{step_tokens, decode_steps, first_bad_step, steps_length, judged, check_good}
 use Rattle.checker.specs.Follows.{first_bad_bytes}
@@ -59,15 +60,6 @@ last_inside h T most n e = let c = counted h T most n e in omega (arith, last_pl
 pub most_bytes : (h T most n : ℕ) → steps_length h T most n ≡ true → n ≤ most * (4 + 2 * h + T)
 most_bytes h T most n e = (counted h T most n e).few
 
--- ---- the first bad step, as the code gives it
-found_some : (o : Option ℕ) (i : ℕ) → found_of o ≡ Some i → o ≡ some i
-found_some (some j) i e = ap some (let f : j ≡ i = cc in f)
-found_some none i e = no_confusion (cc)
-
-found_none : (o : Option ℕ) → found_of o ≡ None → o ≡ none
-found_none (some j) e = no_confusion (cc)
-found_none none e = refl
-
 -- ---- the answer
 module _ (h T most : ℕ) (sy ru qu st : List ℕ) where
   pub check_length : steps_length h T most (length st) ≡ false → check_good h T most sy ru qu st ≡ Err Length
@@ -92,7 +84,7 @@ module _ (h T most : ℕ) (sy ru qu st : List ℕ) where
 
     pub check_step : (i : ℕ) → found_of (bad steps) ≡ Some i → check_good h T most sy ru qu st ≡ Err (BadStep i)
     unfolding check_good judged
-    check_step i f = rw (e, check_good, bad_is (found_some _ i f), judged)
+    check_step i f = rw (e, check_good, bad_is (found_at _ refl f), judged)
 
     module _ (f : found_of (bad steps) ≡ None) where
       -- the last step's fact against the query
@@ -102,15 +94,15 @@ module _ (h T most : ℕ) (sy ru qu st : List ℕ) where
           let n = last_number Z (length st) c.least c.whole in
           let p : length st - Z ≡ (steps - 1) * Z = omega (arith, last_place Z (length st) c.least c.whole) in
           ap (λ (k : ℕ). same_bytes (step_tokens h (take Z (drop k st))) (tokens_of qu)) p
-          ∙ ends_ok h T G.vars G.few sy ru qu st A (steps - 1) (ap bad (sym n) ∙ found_none _ f)
+          ∙ ends_ok h T G.vars G.few sy ru qu st A (steps - 1) (ap bad (sym n) ∙ found_nothing _ refl f)
           ∙ ap (λ (k : ℕ). ends (decode_query sy qu) (decode_steps sy h T k st)) (sym n)
 
       pub check_end : same_bytes (step_tokens h (take Z (drop (length st - Z) st))) (tokens_of qu) ≡ false → check_good h T most sy ru qu st ≡ Err End
       unfolding check_good judged
-      check_end g = rw (e, check_good, bad_is (found_none _ f), judged, sym last_is ∙ g)
+      check_end g = rw (e, check_good, bad_is (found_nothing _ refl f), judged, sym last_is ∙ g)
 
       pub check_accepts : same_bytes (step_tokens h (take Z (drop (length st - Z) st))) (tokens_of qu) ≡ true → check_good h T most sy ru qu st ≡ Ok tt
       unfolding check_good judged
-      check_accepts g = rw (e, check_good, bad_is (found_none _ f), judged, sym last_is ∙ g)
+      check_accepts g = rw (e, check_good, bad_is (found_nothing _ refl f), judged, sym last_is ∙ g)
 
 pub ruleset answers = (last_inside, most_bytes, check_length, check_step, check_end, check_accepts)

@@ -1,5 +1,5 @@
 -- Laws of steps as bytes that the functions' proofs cite: what is read of a step, and a turn and the end of each loop. Assumes nothing.
-use mathlib.Core.Path.{◌≡◌, ap₂, ◌∙◌}
+use mathlib.Core.Path.{◌≡◌, ap, ap₂, ◌∙◌}
 use mathlib.Core.Bool.{true, false}
 use mathlib.Core.Option.{none, some}
 use mathlib.Core.List.{List}
@@ -8,14 +8,15 @@ use native.Mathlib.Nat.{add-mul, mul-le-mul, mul-le-mul_right, div-mul-le_self}
 use native.Mathlib.Numerals.{add-one}
 use native.Mathlib.Omega.{arith}
 use borrow.Author.Tests.{lt-ltb, le-ltb}
-use lib.ListN.{take, get_or}
+use lib.ListN.{length, take, drop, get_or, length-take, length-drop}
 use lib.Seq.{get_or-take}
+use Rattle.records.specs.Rules.{tokens_of}
 use Rattle.records.proofs.Laws.{less}
 use Rattle.terms.specs.Facts.{fact_at}
 use Rattle.matching.specs.Match.{matched, onward, unbound}
 use Rattle.matching.proofs.Laws.{onward_no, onward_yes}
 use Rattle.checker.specs.Steps.{two}
-use Rattle.checker.specs.Follows.{uses_matched, follows_bytes, step_good, first_bad_bytes}
+use Rattle.checker.specs.Follows.{uses_matched, follows_bytes, rule_tokens, step_good, first_bad_bytes}
 
 -- ---- where records and facts stand
 pub rule_place : (r T : ℕ) → r < 65536 → T ≤ 248 → r * (T + 8) ≤ 16777216
@@ -77,19 +78,37 @@ two_front h T l =
 
 pub ruleset named = (rule_place, two_front)
 
--- ---- step i of n
+-- The tokens of a rule are no longer than its record.
+pub rule_short : (size r : ℕ) (ru rt : List ℕ) → rt ≡ rule_tokens size ru r → length rt ≤ size
+unfolding rule_tokens tokens_of
+rule_short size r ru rt e =
+    let rec = take size (drop (r * size) ru) in
+    omega (arith, ap length e, length-take (get_or rec 1 0) (drop 2 rec), length-drop 2 rec, length-take size (drop (r * size) ru))
+
+-- ---- step i of n, wherever it stands
+module _ (sy : List ℕ) (h T c : ℕ) (ru st : List ℕ) (n i at : ℕ) where
+  pub bad_step_at : i < n → step_good sy h T c ru st i at ≡ false → first_bad_bytes sy h T c ru st i at (n - i) ≡ some i
+  unfolding first_bad_bytes
+  bad_step_at k e = rw (less n i k, e, first_bad_bytes)
+
+  pub good_step_at : i < n → step_good sy h T c ru st i at ≡ true → first_bad_bytes sy h T c ru st i at (n - i) ≡ first_bad_bytes sy h T c ru st (i + 1) (at + (4 + 2 * h + T)) (n - (i + 1))
+  unfolding first_bad_bytes
+  good_step_at k e = rw (less n i k, e, first_bad_bytes, add-one)
+
+  pub no_bad_step_at : n ≤ i → first_bad_bytes sy h T c ru st i at (n - i) ≡ none
+  unfolding first_bad_bytes
+  no_bad_step_at k = let e : n - i ≡ 0 = omega arith in rw e
+
+-- and in its place in the list
 module _ (sy : List ℕ) (h T c : ℕ) (ru st : List ℕ) (n i : ℕ) where
   pub bad_step : i < n → step_good sy h T c ru st i (i * (4 + 2 * h + T)) ≡ false → first_bad_bytes sy h T c ru st i (i * (4 + 2 * h + T)) (n - i) ≡ some i
-  unfolding first_bad_bytes
-  bad_step k e = rw (less n i k, e, first_bad_bytes)
+  bad_step k e = bad_step_at sy h T c ru st n i (i * (4 + 2 * h + T)) k e
 
   pub good_step : i < n → step_good sy h T c ru st i (i * (4 + 2 * h + T)) ≡ true
       → first_bad_bytes sy h T c ru st i (i * (4 + 2 * h + T)) (n - i) ≡ first_bad_bytes sy h T c ru st (i + 1) ((i + 1) * (4 + 2 * h + T)) (n - (i + 1))
-  unfolding first_bad_bytes
-  good_step k e = let m : (i + 1) * (4 + 2 * h + T) ≡ i * (4 + 2 * h + T) + (4 + 2 * h + T) = omega (arith, add-mul i 1 (4 + 2 * h + T)) in rw (less n i k, e, first_bad_bytes, m, add-one)
+  good_step k e = let m : (i + 1) * (4 + 2 * h + T) ≡ i * (4 + 2 * h + T) + (4 + 2 * h + T) = omega (arith, add-mul i 1 (4 + 2 * h + T)) in rw m (good_step_at sy h T c ru st n i (i * (4 + 2 * h + T)) k e)
 
   pub no_bad_step : n ≤ i → first_bad_bytes sy h T c ru st i (i * (4 + 2 * h + T)) (n - i) ≡ none
-  unfolding first_bad_bytes
-  no_bad_step k = let e : n - i ≡ 0 = omega arith in rw e
+  no_bad_step k = no_bad_step_at sy h T c ru st n i (i * (4 + 2 * h + T)) k
 
 pub ruleset steps = (step_place, bad_step, good_step, no_bad_step)

@@ -158,7 +158,7 @@ module _ (ar : ℕ → ℕ) (rt qt : List ℕ) (m : ℕ) where
       ] refl)
 
 module _ (sy r q : List ℕ) where
-  implies_placeless : (h : ℕ) → h < get_or r 0 0 → has_place (arity_of sy) (tokens_of q) (get_or q 0 0) (fact_at (arity_of sy) (suc h) (tokens_of r)) ≡ false → implies_bytes sy r q ≡ false
+  pub implies_placeless : (h : ℕ) → h < get_or r 0 0 → has_place (arity_of sy) (tokens_of q) (get_or q 0 0) (fact_at (arity_of sy) (suc h) (tokens_of r)) ≡ false → implies_bytes sy r q ≡ false
   unfolding implies_bytes
   implies_placeless h l e = onward_none _ _ (λ b. carried_placeless (arity_of sy) (tokens_of r) (tokens_of q) (get_or q 0 0) h e (get_or r 0 0) 0 0 b (omega arith) (omega arith))
 

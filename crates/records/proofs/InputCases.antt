@@ -1,19 +1,40 @@
 -- Laws of which input is refused: a refusal of one table ends the test, and a good table passes it on. Assumes nothing.
-use mathlib.Core.Path.{◌≡◌, refl}
+use mathlib.Core.Path.{◌≡◌, refl, sym, ap, ◌∙◌}
 use mathlib.Core.Bool.{Bool, true, false}
 use mathlib.Core.Option.{Option, none, some}
 use mathlib.Core.List.{List}
-use Prim.Native.Nat.{ℕ, ◌+◌, ◌/◌}
+use Prim.Native.Nat.{ℕ, ◌+◌, ◌*◌, ◌/◌, ◌%◌, ◌≤◌}
+use native.Mathlib.Omega.{arith}
+use borrow.Author.Tests.{leb-true}
+use lib.Dec.{eqb, leb}
 use lib.ListN.{length}
-use Rattle.std.specs.Prelude.{Result, Ok, Err}
-use Rattle.theory.specs.Basics.{no_confusion}
+use Rattle.std.specs.Prelude.{Result, Ok, Err, Some, None}
+use Rattle.std.specs.Prelude as code
+use Rattle.theory.specs.Basics.{no_confusion, both_true}
 use Rattle.records.specs.declared.Fault.TheVariants.{Length, Record}
 use Rattle.records.specs.declared.Refusal.{Refusal}
 use Rattle.records.specs.declared.Refusal.TheVariants.{Symbols, Rules}
+use Rattle.records.specs.Found.{found_of}
 use Rattle.records.specs.Symbols.{symbols_length, first_bad_symbol}
 use Rattle.records.specs.Rules.{first_bad_rule}
 use Rattle.records.specs.Input.{query_input, rules_length, rules_input, symbols_alone, rules_alone, input_of}
 
+-- ---- what a search found
+at : (o : Option ℕ) (i : ℕ) → found_of o ≡ Some i → o ≡ some i
+at (some j) i e = ap some (let f : j ≡ i = cc in f)
+at none i e = no_confusion (cc)
+
+nothing : (o : Option ℕ) → found_of o ≡ None → o ≡ none
+nothing (some j) e = no_confusion (cc)
+nothing none e = refl
+
+pub found_at : (o : Option ℕ) {f : code.Option ℕ} {i : ℕ} → f ≡ found_of o → f ≡ Some i → o ≡ some i
+found_at o {i = i} e g = at o i (sym e ∙ g)
+
+pub found_nothing : (o : Option ℕ) {f : code.Option ℕ} → f ≡ found_of o → f ≡ None → o ≡ none
+found_nothing o e g = nothing o (sym e ∙ g)
+
+-- ---- the tables
 abbrev Answer : Type 0
 Answer = Result Unit Refusal
 
@@ -55,3 +76,8 @@ module _ (sy : List ℕ) (h T v : ℕ) (ru qu : List ℕ) where
   rules_query u k = goes_on (rules_length T (length ru)) bad_rule (Rules Length) (λ i. Rules (Record i)) (query_input sy T qu) u k
 
 pub ruleset inputs = (input_symbols, input_rules, rules_refused, rules_query)
+
+-- ---- the length of the rules
+pub rules_fit : (T n : ℕ) → T ≤ 248 → rules_length T n ≡ true → n ≤ 65536
+unfolding rules_length
+rules_fit T n h e = let k = leb-true n (256 * (T + 8)) (both_true (leb n (256 * (T + 8))) (eqb (n % (T + 8)) 0) e).0 in omega arith

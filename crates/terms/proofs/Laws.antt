@@ -109,6 +109,27 @@ module _ (o : ℕ → Bool) where
   one_more ar zero l h = absurd (omega arith)
   one_more ar (suc n) l h = let e : suc n - 1 ≡ n = omega arith in rw e
 
+  -- One turn over n facts, of which k are passed and the next stands at the place `at`, and the end.
+  module _ (ar : ℕ → ℕ) (ts : List ℕ) (n k at s : ℕ) (e : s ≡ span ar 1 (drop at ts)) where
+    turn_at : k < n → all_open_bytes o ar (n - k) (drop at ts) ≡ both (open_bytes o (take (at + s - at) (drop at ts))) (all_open_bytes o ar (n - (k + 1)) (drop (at + s) ts))
+    unfolding all_open_bytes
+    turn_at h =
+        let d : at + s - at ≡ s = omega arith in
+        let m : n - k ≡ suc (n - (k + 1)) = omega arith in
+        rw (m, d, e, drop-drop)
+
+    pub open_yes_at : k < n → open_bytes o (take (at + s - at) (drop at ts)) ≡ true → all_open_bytes o ar (n - k) (drop at ts) ≡ all_open_bytes o ar (n - (k + 1)) (drop (at + s) ts)
+    unfolding both
+    open_yes_at h b = rw b at (turn_at h)
+
+    pub open_no_at : k < n → open_bytes o (take (at + s - at) (drop at ts)) ≡ false → all_open_bytes o ar (n - k) (drop at ts) ≡ false
+    unfolding both
+    open_no_at h b = rw b at (turn_at h)
+
+  pub open_end_at : (ar : ℕ → ℕ) (l : List ℕ) (n k : ℕ) → n ≤ k → all_open_bytes o ar (n - k) l ≡ true
+  unfolding all_open_bytes
+  open_end_at ar l n k h = let e : n - k ≡ 0 = omega arith in rw e
+
   -- One turn of a walk, from w to v by the fact f, and its end.
   abbrev pub rest_open : Walk → Bool
   rest_open w = all_open_bytes o (arity_of w.facts.symbols.now) w.left (facts_from (arity_of w.facts.symbols.now) w.next w.facts.tokens.now)

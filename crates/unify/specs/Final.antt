@@ -30,7 +30,7 @@ combine_none r r' k c e no' = ap (upon (left r) (right r') k) e ∙ go (unify (l
     go none h = refl
     go (some m) h = absurd (no' (λ x. apply m (var x)) (sym (apply_sub m (left r).concl) ∙ h.unifies ∙ apply_sub m c))
 
-ren_left : (t : Term) → ren 0 t ≡ sub (λ x. var (2 * x)) t
+pub ren_left : (t : Term) → ren 0 t ≡ sub (λ x. var (2 * x)) t
 ren_left t = sub_all (λ x. var (2 * x + 0)) (λ x. var (2 * x)) t (λ x. ap var (let z : 2 * x + 0 ≡ 2 * x = omega arith in z))
 
 -- ---- the unifier

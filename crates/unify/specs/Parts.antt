@@ -1,17 +1,24 @@
 -- Writing into a part of a longer text, said of the whole text: the part of `w` from p up to cap was lent. Assumes nothing.
-use Prim.Native.Nat.{ℕ, ◌+◌, ◌-◌, ◌≤◌, ◌<◌}
+use Prim.Native.Nat.{ℕ, ◌+◌, ◌*◌, ◌-◌, ◌≤◌, ◌<◌}
 use native.Mathlib.Omega.{arith}
 use mathlib.Core.List.{List, ◌++◌}
-use Rattle.std.specs.Prelude.{◌≡◌, drop, Option, Some, None}
-use Rattle.std.proofs.Math.Path.{ap}
-use Rattle.std.proofs.Common.{ap₂, ◌∙◌, sym, length-take, length-drop}
+use Rattle.std.specs.Prelude.{Bool, true, false, ◌≡◌, leb, drop, Option, Some, None}
+use Rattle.std.proofs.Math.Path.{refl, ap, subst}
+use Rattle.std.proofs.Common.{ap₂, ◌∙◌, sym, leb-true, leb-false, length-take, length-drop}
 use Rattle.std.proofs.Math.ListN.{length, take}
 use Rattle.std.proofs.Math.Seq.{take-take, take-add}
-use Rattle.model.specs.Term.{Term, size}
+use Rattle.model.specs.Term.{Term, var, sub, size}
+use Rattle.model.specs.Sign.{Signature, is_fact}
+use Rattle.records.specs.Symbols.{arity_of}
+use Rattle.records.specs.TokenLaws.{EachVar, Small, Agrees}
 use Rattle.unify.specs.Closure.{Graph}
 use Rattle.unify.specs.Read.{Reads}
-use Rattle.unify.specs.Writer.{codes, Wrote, Writes}
-use Rattle.unify.specs.Final.{Written}
+use Rattle.unify.specs.Solve.{Solved}
+use Rattle.unify.specs.Nodes.{graph, node, ren, tree_leaves}
+use Rattle.unify.specs.Facts.{Stands}
+use Rattle.unify.specs.Formed.{wf_fact}
+use Rattle.unify.specs.Writer.{codes, codes_size, Wrote, Writes}
+use Rattle.unify.specs.Final.{Written, ren_left}
 
 -- The place behind what was written from p on, or cap + 1 where there was no room.
 abbrev pub place_behind : ℕ → ℕ → Option ℕ → ℕ
@@ -62,3 +69,37 @@ module _ (cap p : ℕ) (o w : List ℕ) (inside : p ≤ cap) (room : cap ≤ len
             (ap (place_behind p cap) f.0, ap (λ (e : ℕ). take e w) (ap (place_behind p cap) f.0) ∙ take-add p (size t) w ∙ ap₂ ◌++◌ before (sym (take-take (size t) (cap - p) (drop p w) (omega arith)) ∙ f.1)));
         short = λ k. ap (place_behind p cap) (W.short (omega (arith, lent_long)));
       }
+
+-- A text written from p on, where there is room for the term or not, by the size of the term.
+written_by : (cap : ℕ) (o w : List ℕ) (p e : ℕ) (t : Term) → WroteFrom cap o w p e (codes t) → WrittenFrom cap o w p e t
+written_by cap o w p e t W = go (leb e cap) refl
+  where
+    n : length (codes t) ≡ size t
+    n = codes_size t
+
+    go : (b : Bool) → leb e cap ≡ b → WrittenFrom cap o w p e t
+    go true q =
+        let y = W.fits (leb-true e cap q) in
+        record { fits = λ l. (omega (arith, y.0, n), y.1); short = λ l. absurd (omega (arith, y.0, n, leb-true e cap q)) }
+    go false q =
+        let y = W.short (leb-false e cap q) in
+        record { fits = λ l. absurd (omega (arith, y, n)); short = λ l. omega (arith, leb-false e cap q, W.most) }
+
+module _ (sy ts s : List ℕ) (S : Signature) (A : Agrees (arity_of sy) S) (p q : ℕ) (w : Solved (graph sy ts) p q s) (x : ℕ) (t : Term) (f : is_fact S t ≡ true) (l : EachVar Small t) where
+  instance_from :
+      (c : ℕ) → Stands ts c x t → (u : Term) → ren c t ≡ u → (cap : ℕ) (o v : List ℕ) (i e : ℕ)
+      → WritesFrom (graph sy ts) s (node ts x) cap o v i e → WrittenFrom cap o v i e (sub w.μ u)
+  instance_from c P u m cap o v i e W =
+      written_by cap o v i e (sub w.μ u)
+      (subst (λ (y : Term). WroteFrom cap o v i e (codes (sub w.μ y))) (tree_leaves sy ts c x t P.behind (wf_fact S sy A t f l) P.sided P.tokens ∙ m)
+      (W (sub w.μ ((graph sy ts).tree (node ts x))) (w.reads (node ts x))))
+
+  -- What is written of a fact of the first record is its instance, its variables made even.
+  pub instance_left_from :
+      Stands ts 0 x t → (cap : ℕ) (o v : List ℕ) (i e : ℕ) → WritesFrom (graph sy ts) s (node ts x) cap o v i e → WrittenFrom cap o v i e (sub w.μ (sub (λ y. var (2 * y)) t))
+  instance_left_from P = instance_from 0 P (sub (λ y. var (2 * y)) t) (ren_left t)
+
+  -- Of the second record: its variables made odd.
+  pub instance_right_from :
+      Stands ts 1 x t → (cap : ℕ) (o v : List ℕ) (i e : ℕ) → WritesFrom (graph sy ts) s (node ts x) cap o v i e → WrittenFrom cap o v i e (sub w.μ (sub (λ y. var (2 * y + 1)) t))
+  instance_right_from P = instance_from 1 P (ren 1 t) refl

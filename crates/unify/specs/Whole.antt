@@ -88,6 +88,13 @@ pub record Far (G : Graph) (s m : List ℕ) (v : ℕ) : Type 0 where
   pub marked : Marked G s m
   pub reads : (x : ℕ) → G.places ≤ x → x < v → Read G s x
 
+pub far_zero : (G : Graph) (s m : List ℕ) (n v : ℕ) → v ≡ G.places → length m ≡ n → ((k : ℕ) → k < n → get_or m k 0 ≡ 0) → Far G s m v
+far_zero G s m n v p e h = record { marked = λ k a. absurd (a (go k (leb (length m) k) refl)); reads = λ x a b. absurd (omega arith) }
+  where
+    go : (k : ℕ) (b : Bool) → leb (length m) k ≡ b → get_or m k 0 ≡ 0
+    go k true q = get_or-eq_default m 0 (leb-true (length m) k q)
+    go k false q = let l = leb-false (length m) k q in h k (omega arith)
+
 pub far_start : (G : Graph) (s m : List ℕ) (n v : ℕ) → v ≡ G.places → m ≡ replicate n 0 → Far G s m v
 far_start G s m n v p e = record { marked = λ k a. absurd (a (zero_at m n e k)); reads = λ x a b. absurd (omega arith) }
 
@@ -152,7 +159,7 @@ module _ (sy : List ℕ) (T : ℕ) (ts b s : List ℕ) (p q : ℕ) (lt : length 
   pub whole_clash : Answer (graph sy ts) b s p q false → Never (graph sy ts) p q
   whole_clash h θ k = h θ (start_resp (graph sy ts) p q b fresh θ) k
 
-  whole_cycle : Answer (graph sy ts) b s p q true → Tested (graph sy ts) s false → Never (graph sy ts) p q
+  pub whole_cycle : Answer (graph sy ts) b s p q true → Tested (graph sy ts) s false → Never (graph sy ts) p q
   whole_cycle h t θ k = cyclic_none (graph sy ts) s t θ (h.0.forced θ (start_resp (graph sy ts) p q b fresh θ) k)
 
   -- after the merging, the test of cycles decides
