@@ -71,7 +71,7 @@ pub struct Target<'a> {
 }
 
 impl Target<'_> {
-    // Do the hypotheses of r from hypothesis k on go one to one into those that are not used, under the bindings?
+    // Do the hypotheses of r from hypothesis k on go one to one into those that are not used, under the bindings? By places, as `has_place`.
     #[tactic(auto, using(crate::proofs::Laws::ways, terms::proofs::Laws::span_next))]
     fn carried(&self, r: &[u8], k: usize, used: u32, binds: [u16; VARIABLES]) -> bool
         ensures { result ≡ carried_by (arity_of self.now.symbols.now) (tokens_of r.now) (tokens_of self.now.record.now) (get_or self.now.record.now 0 0) k (get_or r.now 0 0 - k) used binds }
