@@ -179,6 +179,7 @@ pub fn fill<'a, R: Read>(input: &mut R, buf: &'a mut [u8], n: usize) -> Result<&
 }
 
 // Reads a head, its kind by a read of its own: where the input comes in packets, each read takes one. How many bytes came?
+#[inline(never)] // once a case; taken into the caller it crowded the loops there
 fn read_parts<R: Read>(input: &mut R, head: &mut [u8; HEAD]) -> io::Result<usize>
     ensures within { IfOk result (λ n. n ≤ HEAD) }
     ensures bytes { IfOk result (λ n. Consumes (R.remaining input.old) (R.remaining input.new) (take n head.new)) }

@@ -6,7 +6,7 @@ use Rattle.records.specs.Symbols.{arity_of}
 use Rattle.unify.specs.declared.Pair.{Pair}
 use Rattle.unify.specs.declared.Arguments.{Arguments}
 use Rattle.unify.specs.Closure.{Every}
-use Rattle.unify.specs.Nodes.{head_or, every_drop, starts, starts_at, starts_in, tok, node, Past, at_step, at_end}
+use Rattle.unify.specs.Nodes.{head_or, every_drop, starts, starts_at, starts_in, node, Past, at_step, at_end}
 use Rattle.unify.specs.Pairs.{tokens_of, tokens_long}
 
 -- the place past the term at p

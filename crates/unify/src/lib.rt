@@ -125,19 +125,19 @@ impl<'a> Pair<'a> {
         end
     }
 
-    // The arguments of the symbol at p.
+    // The first `left` arguments of the symbol at p.
     #[tactic(auto, using(crate::specs::Pairs::tokens_long), unfolding(crate::specs::Steps::standing))]
-    fn args(&self, p: usize) -> Arguments<'_, 'a>
+    fn args(&self, p: usize, left: usize) -> Arguments<'_, 'a>
         requires { p < 2 * self.now.toks }
         ensures pair { result.pair.now ≡ self.now }
         ensures at { here self.now result ≡ p + 1 }
-        ensures left { result.left ≡ arity_of self.now.symbols.now (tok (tokens_of self.now) p) }
+        ensures left { result.left ≡ left }
     {
         Arguments {
             pair: self,
             at: p + 1,
             past: false,
-            left: arity(self.symbols, self.token(p)),
+            left,
         }
     }
 
@@ -185,10 +185,12 @@ impl<'a> Pair<'a> {
         if 2 * self.toks <= hi {
             return true;
         }
-        if self.token(lo) != self.token(hi) {
+        let x = self.token(lo);
+        if x != self.token(hi) {
             return false;
         }
-        for (u, v) in self.args(lo).zip(self.args(hi)) {
+        let n = arity(self.symbols, x);
+        for (u, v) in self.args(lo, n).zip(self.args(hi, n)) {
             if !self.merge(rep, u, v) {
                 return false;
             }
@@ -287,7 +289,8 @@ impl Classes<'_> {
             return marks[r] == OPEN;
         }
         marks[r] = OPEN;
-        for a in self.pair.args(r) {
+        let n = arity(self.pair.symbols, self.pair.token(r));
+        for a in self.pair.args(r, n) {
             if self.look(marks, a) {
                 return true;
             }
@@ -326,9 +329,11 @@ impl Classes<'_> {
             out[0] = (r - 2 * self.pair.toks + FIRST_VARIABLE) as u16;
             return Some(1);
         }
-        out[0] = u16::from(self.pair.token(r));
+        let x = self.pair.token(r);
+        out[0] = u16::from(x);
+        let n = arity(self.pair.symbols, x);
         let mut len = 1;
-        for a in self.pair.args(r) {
+        for a in self.pair.args(r, n) {
             len += self.write(&mut out[len..], a)?;
         }
         Some(len)

@@ -29,10 +29,11 @@ loop-a-init t c =
     let A = asks a.self.now a.marks.now a.i h.long h.node h.done h.opened in
     let r = c.root-r.ensures.0 in
     let w = c.args-a-items.ensures in
+    let k = w.left ∙ c.arity-n.ensures.0 ∙ ap (arity_of a.self.now.pair.symbols.now) c.token.ensures in
     rw c.into_iter-a-iterator.ensures.into_iter_gives
     (record {
       same = w.pair;
-      left = rw (w.at, w.left, ← sub-zero (arity_of a.self.now.pair.symbols.now (tok (tokens_of a.self.now.pair) c.root-r.result))) (look_start A (omega (arith, c.if-self-r.false)) (ap (λ (x : ℕ). get_or a.marks.now x 0) (sym r) ∙ c.if-marks-r-ne-NEW.false) _ _ _ (ap (λ (x : ℕ). set a.marks.now x 1) r) r refl);
+      left = rw (w.at, k, ← sub-zero (arity_of a.self.now.pair.symbols.now (tok (tokens_of a.self.now.pair) c.root-r.result))) (look_start A (omega (arith, c.if-self-r.false)) (ap (λ (x : ℕ). get_or a.marks.now x 0) (sym r) ∙ c.if-marks-r-ne-NEW.false) _ _ _ (ap (λ (x : ℕ). set a.marks.now x 1) r) r refl);
     })
 
 pub look-requires : goal.look-requires

@@ -45,11 +45,12 @@ loop-a-init t c =
     let n = eqb-false (length a.out.now) 0 (sym c.if-is_empty.ensures) in
     let A = asked a.self.now a.i c.requires.node c.requires.read in
     let w = c.args-a-items.ensures in
+    let k = w.left ∙ c.arity-n.ensures.0 ∙ ap (arity_of sy) c.token-x.ensures in
     rw c.into_iter-a-iterator.ensures.into_iter_gives
     (record {
       same = w.pair;
-      left = rw (w.at, w.left, ← sub-zero (arity_of sy (tok ts c.root-r.result)), c.from.ensures)
-          (args_start A a.out.now c.root-r.result c.token.result _ c.root-r.ensures.0 (omega (arith, c.if-self-r.false)) (omega arith) c.token.ensures (ap (arity_of sy) (sym c.token.ensures)));
+      left = rw (w.at, k, ← sub-zero (arity_of sy (tok ts c.root-r.result)), c.from.ensures)
+          (args_start A a.out.now c.root-r.result c.token-x.result _ c.root-r.ensures.0 (omega (arith, c.if-self-r.false)) (omega arith) c.token-x.ensures (ap (arity_of sy) (sym c.token-x.ensures)));
     })
 
 pub write-requires : goal.write-requires

@@ -35,12 +35,12 @@ returns-then-self-hi t c =
     let J = joint pair a.rep.now a.i a.j c.requires.long c.requires.down c.requires.nodes c.root-r.ensures.0 c.root-s.ensures.0 c.if-r-s.false c.min-lo.ensures c.max-hi.ensures in
     joint_var J _ refl c.if-self-hi.true
 
-pub returns-then-token : goal.returns-then-token
-returns-then-token t c =
+pub returns-then-x-token : goal.returns-then-x-token
+returns-then-x-token t c =
     let a = c.args in
     let pair = a.self.now in
     let J = joint pair a.rep.now a.i a.j c.requires.long c.requires.down c.requires.nodes c.root-r.ensures.0 c.root-s.ensures.0 c.if-r-s.false c.min-lo.ensures c.max-hi.ensures in
-    joint_clash J a.rep.now (omega (arith, c.if-self-hi.false)) (λ e. c.if-token.true (c.token.ensures ∙ e ∙ sym c.token-2.ensures))
+    joint_clash J a.rep.now (omega (arith, c.if-self-hi.false)) (λ e. c.if-x-token.true (c.token-x.ensures ∙ e ∙ sym c.token.ensures))
 
 pub loop-u-init : goal.loop-u-init
 loop-u-init t c =
@@ -48,9 +48,10 @@ loop-u-init t c =
     let pair = a.self.now in
     let ts = tokens_of pair in
     let J = joint pair a.rep.now a.i a.j c.requires.long c.requires.down c.requires.nodes c.root-r.ensures.0 c.root-s.ensures.0 c.if-r-s.false c.min-lo.ensures c.max-hi.ensures in
-    let e = sym c.token.ensures ∙ c.if-token.false ∙ c.token-2.ensures in
+    let e = sym c.token-x.ensures ∙ c.if-x-token.false ∙ c.token.ensures in
     let x = c.args-2.ensures in
     let y = c.args-3.ensures in
+    let k = x.left ∙ c.arity-n.ensures.0 ∙ ap (arity_of pair.symbols.now) c.token-x.ensures in
     let z = c.zip-u-items.ensures in
     rw (c.into_iter-u-iterator.ensures.into_iter_gives, z.first, z.second)
     (record {
@@ -58,8 +59,8 @@ loop-u-init t c =
       is_finite = tt;
       first = x.pair;
       second = y.pair;
-      as_many = y.left ∙ sym (ap (arity_of pair.symbols.now) e) ∙ sym x.left;
-      doing = rw (x.at, y.at, x.left)
+      as_many = y.left ∙ sym x.left;
+      doing = rw (x.at, y.at, k)
           (subst (Doing pair.symbols.now ts _ _ _ _ _ _) (sub-zero _) (doing_start pair.symbols.now ts _ c.min-lo.result c.max-hi.result _ _ (joint_down J _ refl) refl e refl));
     })
 
@@ -112,5 +113,5 @@ returns t c =
     let y = zip_second c.loop-u.u-iterator in
     let I = c.loop-u.invariant in
     let none : x.left ≡ 0 = elim c.in-None.ensures.steps [ inl e ↦ e.1.0 | inr e ↦ sym I.as_many ∙ e.1.0 ] in
-    joint_true J _ _ refl (omega (arith, c.if-self-hi.false)) (sym c.token.ensures ∙ c.if-token.false ∙ c.token-2.ensures)
+    joint_true J _ _ refl (omega (arith, c.if-self-hi.false)) (sym c.token-x.ensures ∙ c.if-x-token.false ∙ c.token.ensures)
     (doing_done pair.symbols.now (tokens_of pair) _ _ _ _ (here pair x) (here pair y) x.left 0 (omega (arith, none)) (rw (← sub-zero x.left) at I.doing))
