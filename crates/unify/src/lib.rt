@@ -5,7 +5,7 @@
 ghost use Rattle.std.specs.Prelude.{◌≡◌, ◌+◌, ◌*◌, ◌≤◌, ◌<◌, length, get_or};
 ghost use Rattle.records.specs.Symbols.{arity_of};
 ghost use Rattle.unify.specs.Forest.{Down, down_prop, find};
-ghost use Rattle.unify.specs.Nodes.{node, tok, Past};
+ghost use Rattle.unify.specs.Nodes.{node, Past};
 ghost use Rattle.unify.specs.Facts.{Given};
 ghost use Rattle.unify.specs.Merge.{Answer};
 ghost use Rattle.unify.specs.Inside.{Read, Done, Open};
