@@ -47,18 +47,17 @@ impl<'s, 'a> Facts<'s, 'a> {
         ensures value { result ≡ span_of (arity_of self.now.symbols.now) n (drop from self.now.tokens.now) }
         ensures inside { from + result ≤ length self.now.tokens.now }
     {
-        if n == 0 {
-            return 0;
-        }
         let mut need = n;
-        // By places and with the test last: this loop is the heart of every walk, and so it takes a jump less at each token.
-        for at in from..self.tokens.len() {
-            need = need - 1 + arity(self.symbols, self.tokens[at]);
+        let mut at = from;
+        // A `while`: this loop is the heart of every walk, and a `for` takes a jump and a test more at each token.
+        while at < self.tokens.len() {
             if need == 0 {
-                return at + 1 - from;
+                return at - from;
             }
+            need = need - 1 + arity(self.symbols, self.tokens[at]);
+            at += 1;
         }
-        self.tokens.len() - from
+        at - from
     }
 
     /// The n facts from fact `first` on.
